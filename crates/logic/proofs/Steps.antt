@@ -1,0 +1,41 @@
+-- One step of each reader. Assumes nothing.
+use Prim.Native.Nat.{ℕ, zero, suc, _+_, _-_, _<_}
+use mathlib.Core.Path.{_≡_, refl, ap, _∙_, sym}
+use mathlib.Core.List.{List, [], _∷_}
+use mathlib.Core.Bool.{Bool, true, false, cond}
+use native.Mathlib.Omega.{arith}
+use native.Mathlib.Numerals.{add-one, sub-one}
+use lib.Dec.{eqb, ltb, leb}
+use lib.ListN.{length, getD}
+use Rattle.std.proofs.shelf.Ways.{tells}
+use Rattle.logic.specs.Signs.{digit}
+use Rattle.logic.specs.Class.{Class, none, digits, opens, closes, commas, classOf, is}
+use Rattle.logic.specs.Reading.{Out, got, bad, bind, too-deep, termBy, readTerm, formulaBy, readFormula}
+use Rattle.logic.specs.Syntax.{Term, Formula}
+
+-- with no level left, nothing is read further
+none-left : (f g : ℕ → ℕ → Out Term) (most : ℕ) (bytes : List ℕ) (at n : ℕ) → termBy f most 0 bytes at n ≡ termBy g most 0 bytes at n
+none-left f g most bytes at n = grind (arith, tells)
+
+-- a reader of terms, whatever the number of levels
+pub unroll : (most left : ℕ) (bytes : List ℕ) (at n : ℕ) → readTerm most left bytes at n ≡ termBy (readTerm most (left - 1) bytes) most left bytes at n
+unroll most zero bytes at n = none-left (λ at n. bad too-deep at) (readTerm most (0 - 1) bytes) most bytes at n
+unroll most (suc left) bytes at n = rw sub-one refl
+
+none-left-formula : (f g : ℕ → ℕ → Out Formula) (most : ℕ) (bytes : List ℕ) (at n : ℕ) → formulaBy f most 0 bytes at n ≡ formulaBy g most 0 bytes at n
+none-left-formula f g most bytes at n = grind (arith, tells)
+
+-- a reader of formulas, whatever the number of levels
+pub unroll-formula : (most left : ℕ) (bytes : List ℕ) (at n : ℕ) → readFormula most left bytes at n ≡ formulaBy (readFormula most (left - 1) bytes) most left bytes at n
+unroll-formula most zero bytes at n = none-left-formula (λ at n. bad too-deep at) (readFormula most (0 - 1) bytes) most bytes at n
+unroll-formula most (suc left) bytes at n = rw sub-one refl
+
+-- the bytes of each class that the reader asks for
+pub is-opens : (b : ℕ) → is (classOf b) opens ≡ eqb b 40
+is-opens b = grind (arith, tells)
+
+pub is-closes : (b : ℕ) → is (classOf b) closes ≡ eqb b 41
+is-closes b = grind (arith, tells)
+
+pub is-commas : (b : ℕ) → is (classOf b) commas ≡ eqb b 44
+is-commas b = grind (arith, tells)

@@ -1,0 +1,6 @@
+pub mod Syntax
+pub mod Signs
+pub mod Text
+pub mod OneMeaning
+pub mod Class
+pub mod Reading

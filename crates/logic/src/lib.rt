@@ -1,0 +1,4 @@
+// The theory of sentences.
+pub fn placeholder() -> u8 {
+    0
+}
