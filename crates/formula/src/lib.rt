@@ -1,0 +1,27 @@
+// Terms and formulas: read from bytes, printed back, measured.
+//
+//   name     the digit of a name
+//   tree     terms and formulas as trees
+//   measures parts, levels and free variables of a tree
+//   class    the class of each byte value
+//   fault    what a call can refuse, and for what
+//   reader   trees from bytes
+mod class;
+mod fault;
+mod measures;
+mod name;
+mod reader;
+mod tree;
+mod variables;
+
+//pub use class::Class;
+//pub use fault::Fault;
+//pub use fault::Layer;
+//pub use fault::Source;
+pub use name::NAMES;
+pub use name::Name;
+pub use tree::Connective;
+pub use tree::Formula;
+pub use tree::Quantifier;
+pub use tree::Term;
+pub use variables::Variables;
