@@ -1,1 +1,80 @@
-// class
+// The class of each byte value.
+ghost use mathlib.Core.Path.{_≡_};
+ghost use lib.Dec.{T};
+ghost use Rattle.logic.specs.Class.{classOf};
+ghost use Rattle.formula.specs.Table.{class, follows};
+
+/// What a byte can be in a text: a digit, a bracket, a comma, else the sign that it is or begins, or none.
+#[derive(Clone, Copy)]
+pub enum Class {
+    None,
+    Digit,
+    Open,
+    Close,
+    Comma,
+    Variable,
+    Constant,
+    Function1,
+    Function2,
+    Predicate0,
+    Predicate1,
+    Predicate2,
+    Not,
+    And,
+    Or,
+    Implies,
+    Every,
+    Some,
+}
+
+const CLASSES: [Class; 256] = [
+    Class::None, Class::None, Class::None, Class::None, Class::None, Class::None, Class::None, Class::None,
+    Class::None, Class::None, Class::None, Class::None, Class::None, Class::None, Class::None, Class::None,
+    Class::None, Class::None, Class::None, Class::None, Class::None, Class::None, Class::None, Class::None,
+    Class::None, Class::None, Class::None, Class::None, Class::None, Class::None, Class::None, Class::None,
+    Class::None, Class::None, Class::None, Class::None, Class::None, Class::None, Class::And, Class::None,
+    Class::Open, Class::Close, Class::None, Class::None, Class::Comma, Class::Not, Class::None, Class::None,
+    Class::Digit, Class::Digit, Class::Digit, Class::Digit, Class::Digit, Class::Digit, Class::Digit, Class::Digit,
+    Class::None, Class::None, Class::None, Class::None, Class::None, Class::None, Class::Implies, Class::None,
+    Class::None, Class::Every, Class::None, Class::None, Class::None, Class::Some, Class::None, Class::None,
+    Class::None, Class::None, Class::None, Class::None, Class::None, Class::None, Class::None, Class::None,
+    Class::None, Class::None, Class::None, Class::None, Class::None, Class::None, Class::None, Class::None,
+    Class::None, Class::None, Class::None, Class::None, Class::None, Class::None, Class::None, Class::None,
+    Class::None, Class::None, Class::None, Class::Constant, Class::None, Class::None, Class::Function1, Class::Function2,
+    Class::None, Class::None, Class::None, Class::None, Class::None, Class::None, Class::None, Class::None,
+    Class::Predicate0, Class::Predicate1, Class::Predicate2, Class::None, Class::None, Class::None, Class::None, Class::None,
+    Class::Variable, Class::None, Class::None, Class::None, Class::Or, Class::None, Class::None, Class::None,
+    Class::None, Class::None, Class::None, Class::None, Class::None, Class::None, Class::None, Class::None,
+    Class::None, Class::None, Class::None, Class::None, Class::None, Class::None, Class::None, Class::None,
+    Class::None, Class::None, Class::None, Class::None, Class::None, Class::None, Class::None, Class::None,
+    Class::None, Class::None, Class::None, Class::None, Class::None, Class::None, Class::None, Class::None,
+    Class::None, Class::None, Class::None, Class::None, Class::None, Class::None, Class::None, Class::None,
+    Class::None, Class::None, Class::None, Class::None, Class::None, Class::None, Class::None, Class::None,
+    Class::None, Class::None, Class::None, Class::None, Class::None, Class::None, Class::None, Class::None,
+    Class::None, Class::None, Class::None, Class::None, Class::None, Class::None, Class::None, Class::None,
+    Class::None, Class::None, Class::None, Class::None, Class::None, Class::None, Class::None, Class::None,
+    Class::None, Class::None, Class::None, Class::None, Class::None, Class::None, Class::None, Class::None,
+    Class::None, Class::None, Class::None, Class::None, Class::None, Class::None, Class::None, Class::None,
+    Class::None, Class::None, Class::None, Class::None, Class::None, Class::None, Class::None, Class::None,
+    Class::None, Class::None, Class::None, Class::None, Class::None, Class::None, Class::None, Class::None,
+    Class::None, Class::None, Class::None, Class::None, Class::None, Class::None, Class::None, Class::None,
+    Class::None, Class::None, Class::None, Class::None, Class::None, Class::None, Class::None, Class::None,
+    Class::None, Class::None, Class::None, Class::None, Class::None, Class::None, Class::None, Class::None,
+];
+
+impl Class {
+    /// The class of a byte.
+    pub fn of(byte: u8) -> Class
+        ensures { λ r. ⌜ class r ≡ classOf byte ⌝ }
+    {
+        Class::in_table(&CLASSES, byte)
+    }
+
+    // The class that a table has for a byte: its rule, where the table follows it.
+    fn in_table(table: &[Class; 256], byte: u8) -> Class
+        requires { ⌜ T (follows 0 (now table)) ⌝ }
+        ensures { λ r. ⌜ class r ≡ classOf byte ⌝ }
+    {
+        table[byte as usize]
+    }
+}

@@ -14,10 +14,10 @@ mod reader;
 mod tree;
 mod variables;
 
-//pub use class::Class;
-//pub use fault::Fault;
-//pub use fault::Layer;
-//pub use fault::Source;
+pub use class::Class;
+pub use fault::Fault;
+pub use fault::Layer;
+pub use fault::Source;
 pub use name::NAMES;
 pub use name::Name;
 pub use tree::Connective;
