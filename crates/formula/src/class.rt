@@ -1,11 +1,11 @@
 // The class of each byte value.
 ghost use mathlib.Core.Path.{_≡_};
 ghost use lib.Dec.{T};
-ghost use Rattle.logic.specs.Class.{classOf};
+ghost use Rattle.logic.specs.Class.{classOf, is};
 ghost use Rattle.formula.specs.Table.{class, follows};
 
 /// What a byte can be in a text: a digit, a bracket, a comma, else the sign that it is or begins, or none.
-#[derive(Clone, Copy)]
+#[derive(Clone, Copy, Debug)]
 pub enum Class {
     None,
     Digit,
@@ -68,6 +68,13 @@ impl Class {
         ensures { λ r. ⌜ class r ≡ classOf byte ⌝ }
     {
         Class::in_table(&CLASSES, byte)
+    }
+
+    /// Whether a byte is of this class.
+    pub fn has(self, byte: u8) -> bool
+        ensures { λ r. ⌜ r ≡ is (classOf byte) (class self) ⌝ }
+    {
+        Class::of(byte) as u8 == self as u8
     }
 
     // The class that a table has for a byte: its rule, where the table follows it.
