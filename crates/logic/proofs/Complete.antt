@@ -1,19 +1,19 @@
 -- The readers read the text of each term and formula within the limits. Assumes nothing.
-use Prim.Native.Nat.{ℕ, zero, suc, _+_, _-_, _<_, _≤_}
-use mathlib.Core.Path.{_≡_, refl, ap, _∙_, sym}
+use Prim.Native.Nat.{ℕ, _+_, _-_, _<_, _≤_}
+use mathlib.Core.Path.{_≡_, refl, ap, _∙_}
 use mathlib.Core.List.{List, [], _∷_, _++_, append-assoc}
-use mathlib.Core.Bool.{Bool, true, false, cond, _&&_}
+use mathlib.Core.Bool.{true, _&&_}
 use native.Mathlib.Omega.{arith}
 use lib.Dec.{eqb, ltb, leb}
 use lib.ListN.{length, getD, drop, length-append, length-drop}
 use Rattle.std.proofs.shelf.Lists.{drop-more}
 use Rattle.std.proofs.shelf.Tests.{lt-ltb, ne-eqb}
 use Rattle.std.proofs.shelf.Ways.{tells}
-use Rattle.logic.specs.Syntax.{Term, variable, constant, apply1, apply2, Connective, conjunction, disjunction, implication, Quantifier, every, some, Formula, pred0, pred1, pred2, negation, binary, quantified}
-use Rattle.logic.specs.Signs.{'x', 'f', 'g', 'q', 'r', 'open', 'close', 'comma', digit, joint, letter}
+use Rattle.logic.specs.Syntax.{Term, variable, constant, apply1, apply2, Connective, conjunction, disjunction, implication, every, some, Formula, pred0, pred1, pred2, negation, binary, quantified}
+use Rattle.logic.specs.Signs.{'x', 'f', 'g', 'q', 'r', 'open', 'close', 'comma', digit, joint}
 use Rattle.logic.specs.Class.{Class, opens, closes, commas, classOf, is}
 use Rattle.logic.specs.Text.{termText, text, termParts, parts, termLevels, levels, TermNamed, Named, names}
-use Rattle.logic.specs.Reading.{Out, got, bad, bind, Head, head-variable, head-constant, head-apply1, head-apply2, Opening, open-pred0, open-pred1, open-pred2, open-negation, open-binary, open-quantified, sign, name, part, head, opening, connective, bound, readTerm, readFormula}
+use Rattle.logic.specs.Reading.{Out, got, Head, head-variable, head-constant, head-apply1, head-apply2, Opening, open-pred0, open-pred1, open-pred2, open-negation, open-binary, open-quantified, sign, name, part, head, opening, connective, bound, readTerm, readFormula}
 use Rattle.logic.proofs.Steps.{unroll, unroll-formula, is-opens, is-closes, is-commas, is-digits, headByte, openingByte}
 
 -- the byte at a place, when the bytes from there on are known
@@ -102,34 +102,34 @@ bound-reads x bytes at n bs l e =
 
 pub term-complete : (t : Term) (most left : ℕ) (bytes : List ℕ) (at n : ℕ) (rest : List ℕ) → TermNamed t → termLevels t ≤ left → n + termParts t ≤ most → drop at bytes ≡ termText t ++ rest → Read (readTerm most left bytes at n) t bytes (at + length (termText t)) (n + termParts t) rest
 term-complete (variable x) most left bytes at n rest ok deep many e =
-    let r0 = head-reads head-variable most left bytes at n (digit x ∷ rest) (omega arith) (omega arith) e in
-    let r1 = name-reads x bytes (at + 1) (n + 1) rest ok (r0 .next) in
+    let r0 = head-reads head-variable most left bytes at n _ (omega arith) (omega arith) e in
+    let r1 = name-reads x bytes (at + 1) (n + 1) _ ok (r0 .next) in
     let place : at + 1 + 1 ≡ at + 2 = omega arith in
     record { answer = unroll most left bytes at n ∙ rw (r0 .answer, r1 .answer, place) refl; next = rw place at (r1 .next) }
 term-complete (constant c) most left bytes at n rest ok deep many e =
-    let r0 = head-reads head-constant most left bytes at n (digit c ∷ rest) (omega arith) (omega arith) e in
-    let r1 = name-reads c bytes (at + 1) (n + 1) rest ok (r0 .next) in
+    let r0 = head-reads head-constant most left bytes at n _ (omega arith) (omega arith) e in
+    let r1 = name-reads c bytes (at + 1) (n + 1) _ ok (r0 .next) in
     let place : at + 1 + 1 ≡ at + 2 = omega arith in
     record { answer = unroll most left bytes at n ∙ rw (r0 .answer, r1 .answer, place) refl; next = rw place at (r1 .next) }
 term-complete (apply1 f s) most left bytes at n rest ok deep many e =
     let spread : termText (apply1 f s) ++ rest ≡ 'f' ∷ digit f ∷ 'open' ∷ (termText s ++ ('close' ∷ rest)) = simp append-assoc in
-    let r0 = head-reads head-apply1 most left bytes at n (digit f ∷ 'open' ∷ (termText s ++ ('close' ∷ rest))) (omega arith) (omega arith) (e ∙ spread) in
-    let r1 = name-reads f bytes (at + 1) (n + 1) ('open' ∷ (termText s ++ ('close' ∷ rest))) (ok .0) (r0 .next) in
-    let r2 = open-reads bytes (at + 1 + 1) (n + 1) (termText s ++ ('close' ∷ rest)) (r1 .next) in
+    let r0 = head-reads head-apply1 most left bytes at n _ (omega arith) (omega arith) (e ∙ spread) in
+    let r1 = name-reads f bytes (at + 1) (n + 1) _ (ok .0) (r0 .next) in
+    let r2 = open-reads bytes _ (n + 1) _ (r1 .next) in
     let r3 = term-complete s most (left - 1) bytes (at + 1 + 1 + 1) (n + 1) ('close' ∷ rest) (ok .1) (omega arith) (omega arith) (r2 .next) in
-    let r4 = close-reads bytes (at + 1 + 1 + 1 + length (termText s)) (n + 1 + termParts s) rest (r3 .next) in
+    let r4 = close-reads bytes _ (n + 1 + termParts s) _ (r3 .next) in
     let place : at + 1 + 1 + 1 + length (termText s) + 1 ≡ at + length (termText (apply1 f s)) = omega (arith, length-append (termText s) ('close' ∷ [])) in
     let count : n + 1 + termParts s ≡ n + (1 + termParts s) = omega arith in
     record { answer = unroll most left bytes at n ∙ rw (r0 .answer, r1 .answer, r2 .answer, r3 .answer, r4 .answer, place, count) refl; next = rw place at (r4 .next) }
 term-complete (apply2 f s t) most left bytes at n rest ok deep many e =
     let spread : termText (apply2 f s t) ++ rest ≡ 'g' ∷ digit f ∷ 'open' ∷ (termText s ++ ('comma' ∷ (termText t ++ ('close' ∷ rest)))) = simp append-assoc in
-    let r0 = head-reads head-apply2 most left bytes at n (digit f ∷ 'open' ∷ (termText s ++ ('comma' ∷ (termText t ++ ('close' ∷ rest))))) (omega arith) (omega arith) (e ∙ spread) in
-    let r1 = name-reads f bytes (at + 1) (n + 1) ('open' ∷ (termText s ++ ('comma' ∷ (termText t ++ ('close' ∷ rest))))) (ok .0) (r0 .next) in
-    let r2 = open-reads bytes (at + 1 + 1) (n + 1) (termText s ++ ('comma' ∷ (termText t ++ ('close' ∷ rest)))) (r1 .next) in
+    let r0 = head-reads head-apply2 most left bytes at n _ (omega arith) (omega arith) (e ∙ spread) in
+    let r1 = name-reads f bytes (at + 1) (n + 1) _ (ok .0) (r0 .next) in
+    let r2 = open-reads bytes _ (n + 1) _ (r1 .next) in
     let r3 = term-complete s most (left - 1) bytes (at + 1 + 1 + 1) (n + 1) ('comma' ∷ (termText t ++ ('close' ∷ rest))) (ok .1) (omega arith) (omega arith) (r2 .next) in
-    let r4 = comma-reads bytes (at + 1 + 1 + 1 + length (termText s)) (n + 1 + termParts s) (termText t ++ ('close' ∷ rest)) (r3 .next) in
+    let r4 = comma-reads bytes _ (n + 1 + termParts s) _ (r3 .next) in
     let r5 = term-complete t most (left - 1) bytes (at + 1 + 1 + 1 + length (termText s) + 1) (n + 1 + termParts s) ('close' ∷ rest) (ok .2) (omega arith) (omega arith) (r4 .next) in
-    let r6 = close-reads bytes (at + 1 + 1 + 1 + length (termText s) + 1 + length (termText t)) (n + 1 + termParts s + termParts t) rest (r5 .next) in
+    let r6 = close-reads bytes _ (n + 1 + termParts s + termParts t) _ (r5 .next) in
     let place : at + 1 + 1 + 1 + length (termText s) + 1 + length (termText t) + 1 ≡ at + length (termText (apply2 f s t)) =
       omega (arith, length-append (termText s) ('comma' ∷ (termText t ++ ('close' ∷ []))), length-append (termText t) ('close' ∷ [])) in
     let count : n + 1 + termParts s + termParts t ≡ n + (1 + termParts s + termParts t) = omega arith in
@@ -137,53 +137,53 @@ term-complete (apply2 f s t) most left bytes at n rest ok deep many e =
 
 pub complete : (a : Formula) (most left : ℕ) (bytes : List ℕ) (at n : ℕ) (rest : List ℕ) → Named a → levels a ≤ left → n + parts a ≤ most → drop at bytes ≡ text a ++ rest → Read (readFormula most left bytes at n) a bytes (at + length (text a)) (n + parts a) rest
 complete (pred0 p) most left bytes at n rest ok deep many e =
-    let r0 = opening-reads open-pred0 most left bytes at n (digit p ∷ rest) (omega arith) (omega arith) e in
-    let r1 = name-reads p bytes (at + 1) (n + 1) rest ok (r0 .next) in
+    let r0 = opening-reads open-pred0 most left bytes at n _ (omega arith) (omega arith) e in
+    let r1 = name-reads p bytes (at + 1) (n + 1) _ ok (r0 .next) in
     let place : at + 1 + 1 ≡ at + 2 = omega arith in
     record { answer = unroll-formula most left bytes at n ∙ rw (r0 .answer, r1 .answer, place) refl; next = rw place at (r1 .next) }
 complete (pred1 p s) most left bytes at n rest ok deep many e =
     let spread : text (pred1 p s) ++ rest ≡ 'q' ∷ digit p ∷ 'open' ∷ (termText s ++ ('close' ∷ rest)) = simp append-assoc in
-    let r0 = opening-reads open-pred1 most left bytes at n (digit p ∷ 'open' ∷ (termText s ++ ('close' ∷ rest))) (omega arith) (omega arith) (e ∙ spread) in
-    let r1 = name-reads p bytes (at + 1) (n + 1) ('open' ∷ (termText s ++ ('close' ∷ rest))) (ok .0) (r0 .next) in
-    let r2 = open-reads bytes (at + 1 + 1) (n + 1) (termText s ++ ('close' ∷ rest)) (r1 .next) in
+    let r0 = opening-reads open-pred1 most left bytes at n _ (omega arith) (omega arith) (e ∙ spread) in
+    let r1 = name-reads p bytes (at + 1) (n + 1) _ (ok .0) (r0 .next) in
+    let r2 = open-reads bytes _ (n + 1) _ (r1 .next) in
     let r3 = term-complete s most (left - 1) bytes (at + 1 + 1 + 1) (n + 1) ('close' ∷ rest) (ok .1) (omega arith) (omega arith) (r2 .next) in
-    let r4 = close-reads bytes (at + 1 + 1 + 1 + length (termText s)) (n + 1 + termParts s) rest (r3 .next) in
+    let r4 = close-reads bytes _ (n + 1 + termParts s) _ (r3 .next) in
     let place : at + 1 + 1 + 1 + length (termText s) + 1 ≡ at + length (text (pred1 p s)) = omega (arith, length-append (termText s) ('close' ∷ [])) in
     let count : n + 1 + termParts s ≡ n + (1 + termParts s) = omega arith in
     record { answer = unroll-formula most left bytes at n ∙ rw (r0 .answer, r1 .answer, r2 .answer, r3 .answer, r4 .answer, place, count) refl; next = rw place at (r4 .next) }
 complete (pred2 p s t) most left bytes at n rest ok deep many e =
     let spread : text (pred2 p s t) ++ rest ≡ 'r' ∷ digit p ∷ 'open' ∷ (termText s ++ ('comma' ∷ (termText t ++ ('close' ∷ rest)))) = simp append-assoc in
-    let r0 = opening-reads open-pred2 most left bytes at n (digit p ∷ 'open' ∷ (termText s ++ ('comma' ∷ (termText t ++ ('close' ∷ rest))))) (omega arith) (omega arith) (e ∙ spread) in
-    let r1 = name-reads p bytes (at + 1) (n + 1) ('open' ∷ (termText s ++ ('comma' ∷ (termText t ++ ('close' ∷ rest))))) (ok .0) (r0 .next) in
-    let r2 = open-reads bytes (at + 1 + 1) (n + 1) (termText s ++ ('comma' ∷ (termText t ++ ('close' ∷ rest)))) (r1 .next) in
+    let r0 = opening-reads open-pred2 most left bytes at n _ (omega arith) (omega arith) (e ∙ spread) in
+    let r1 = name-reads p bytes (at + 1) (n + 1) _ (ok .0) (r0 .next) in
+    let r2 = open-reads bytes _ (n + 1) _ (r1 .next) in
     let r3 = term-complete s most (left - 1) bytes (at + 1 + 1 + 1) (n + 1) ('comma' ∷ (termText t ++ ('close' ∷ rest))) (ok .1) (omega arith) (omega arith) (r2 .next) in
-    let r4 = comma-reads bytes (at + 1 + 1 + 1 + length (termText s)) (n + 1 + termParts s) (termText t ++ ('close' ∷ rest)) (r3 .next) in
+    let r4 = comma-reads bytes _ (n + 1 + termParts s) _ (r3 .next) in
     let r5 = term-complete t most (left - 1) bytes (at + 1 + 1 + 1 + length (termText s) + 1) (n + 1 + termParts s) ('close' ∷ rest) (ok .2) (omega arith) (omega arith) (r4 .next) in
-    let r6 = close-reads bytes (at + 1 + 1 + 1 + length (termText s) + 1 + length (termText t)) (n + 1 + termParts s + termParts t) rest (r5 .next) in
+    let r6 = close-reads bytes _ (n + 1 + termParts s + termParts t) _ (r5 .next) in
     let place : at + 1 + 1 + 1 + length (termText s) + 1 + length (termText t) + 1 ≡ at + length (text (pred2 p s t)) =
       omega (arith, length-append (termText s) ('comma' ∷ (termText t ++ ('close' ∷ []))), length-append (termText t) ('close' ∷ [])) in
     let count : n + 1 + termParts s + termParts t ≡ n + (1 + termParts s + termParts t) = omega arith in
     record { answer = unroll-formula most left bytes at n ∙ rw (r0 .answer, r1 .answer, r2 .answer, r3 .answer, r4 .answer, r5 .answer, r6 .answer, place, count) refl; next = rw place at (r6 .next) }
 complete (negation a) most left bytes at n rest ok deep many e =
-    let r0 = opening-reads open-negation most left bytes at n (text a ++ rest) (omega arith) (omega arith) e in
+    let r0 = opening-reads open-negation most left bytes at n _ (omega arith) (omega arith) e in
     let r1 = complete a most (left - 1) bytes (at + 1) (n + 1) rest ok (omega arith) (omega arith) (r0 .next) in
     let place : at + 1 + length (text a) ≡ at + length (text (negation a)) = omega arith in
     let count : n + 1 + parts a ≡ n + (1 + parts a) = omega arith in
     record { answer = unroll-formula most left bytes at n ∙ rw (r0 .answer, r1 .answer, place, count) refl; next = rw place at (r1 .next) }
 complete (binary k a b) most left bytes at n rest ok deep many e =
     let spread : text (binary k a b) ++ rest ≡ 'open' ∷ (text a ++ (joint k ∷ (text b ++ ('close' ∷ rest)))) = simp append-assoc in
-    let r0 = opening-reads open-binary most left bytes at n (text a ++ (joint k ∷ (text b ++ ('close' ∷ rest)))) (omega arith) (omega arith) (e ∙ spread) in
+    let r0 = opening-reads open-binary most left bytes at n _ (omega arith) (omega arith) (e ∙ spread) in
     let r1 = complete a most (left - 1) bytes (at + 1) (n + 1) (joint k ∷ (text b ++ ('close' ∷ rest))) (ok .0) (omega arith) (omega arith) (r0 .next) in
-    let r2 = connective-reads k bytes (at + 1 + length (text a)) (n + 1 + parts a) (text b ++ ('close' ∷ rest)) (r1 .next) in
+    let r2 = connective-reads k bytes _ (n + 1 + parts a) _ (r1 .next) in
     let r3 = complete b most (left - 1) bytes (at + 1 + length (text a) + 1) (n + 1 + parts a) ('close' ∷ rest) (ok .1) (omega arith) (omega arith) (r2 .next) in
-    let r4 = close-reads bytes (at + 1 + length (text a) + 1 + length (text b)) (n + 1 + parts a + parts b) rest (r3 .next) in
+    let r4 = close-reads bytes _ (n + 1 + parts a + parts b) _ (r3 .next) in
     let place : at + 1 + length (text a) + 1 + length (text b) + 1 ≡ at + length (text (binary k a b)) =
       omega (arith, length-append (text a) (joint k ∷ (text b ++ ('close' ∷ []))), length-append (text b) ('close' ∷ [])) in
     let count : n + 1 + parts a + parts b ≡ n + (1 + parts a + parts b) = omega arith in
     record { answer = unroll-formula most left bytes at n ∙ rw (r0 .answer, r1 .answer, r2 .answer, r3 .answer, r4 .answer, place, count) refl; next = rw place at (r4 .next) }
 complete (quantified q x a) most left bytes at n rest ok deep many e =
-    let r0 = opening-reads (open-quantified q) most left bytes at n ('x' ∷ digit x ∷ (text a ++ rest)) (omega arith) (omega arith) e in
-    let r1 = bound-reads x bytes (at + 1) (n + 1) (text a ++ rest) (ok .0) (r0 .next) in
+    let r0 = opening-reads (open-quantified q) most left bytes at n _ (omega arith) (omega arith) e in
+    let r1 = bound-reads x bytes (at + 1) (n + 1) _ (ok .0) (r0 .next) in
     let r2 = complete a most (left - 1) bytes (at + 1 + 1 + 1) (n + 1) rest (ok .1) (omega arith) (omega arith) (r1 .next) in
     let place : at + 1 + 1 + 1 + length (text a) ≡ at + length (text (quantified q x a)) = omega arith in
     let count : n + 1 + parts a ≡ n + (1 + parts a) = omega arith in

@@ -1,19 +1,19 @@
 -- The bytes that are read are exactly the texts within the limits, and no text has two meanings. Assumes nothing.
 use Prim.Native.Nat.{ℕ, _+_, _<_, _≤_}
 use mathlib.Core.Path.{_≡_, refl, ap, _∙_, sym, subst}
-use mathlib.Core.List.{List, [], _∷_, _++_}
-use mathlib.Core.Bool.{Bool, true, false, cond, _||_}
+use mathlib.Core.List.{List, [], _++_}
+use mathlib.Core.Bool.{Bool, true, false, _||_}
 use native.Mathlib.Omega.{arith}
 use lib.Dec.{eqb, ltb}
 use lib.ListN.{length, getD, take, drop}
 use Rattle.std.proofs.shelf.Lists.{append-nil, drop-all, take-at}
 use Rattle.std.proofs.shelf.Tests.{ltb-true, ltb-false, le-ltb, cond-both, both-ways}
-use Rattle.logic.specs.Syntax.{Term, variable, constant, apply1, apply2, Quantifier, every, some, Formula, pred0, pred1, pred2, negation, binary, quantified}
+use Rattle.logic.specs.Syntax.{Term, variable, constant, apply1, apply2, every, some, Formula, pred0, pred1, pred2, negation, binary, quantified}
 use Rattle.logic.specs.Signs.{'x', 'c', 'f', 'g'}
 use Rattle.logic.specs.Text.{termText, text, termParts, parts, termLevels, levels, TermNamed, Named, TermWellFormed, WellFormed, ReadsTerm, Reads, most-parts, most-levels}
-use Rattle.logic.specs.Reading.{Misreading, after-end, Out, got, bad, readTerm, readFormula, Verdict, reads, faulty, closed, formulaOf, termOf}
+use Rattle.logic.specs.Reading.{after-end, Out, got, bad, readTerm, readFormula, reads, faulty, closed, formulaOf, termOf}
 use Rattle.logic.specs.OneMeaning.{OneMeaning}
-use Rattle.logic.proofs.Complete.{Read, term-complete, complete}
+use Rattle.logic.proofs.Complete.{term-complete, complete}
 use Rattle.logic.proofs.Sound.{TermFound, Found, Inner, Gives, term-gives, gives}
 
 -- the bytes end where the reader stands

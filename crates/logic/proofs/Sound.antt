@@ -2,24 +2,24 @@
 use Prim.Native.Nat.{ℕ, zero, suc, _+_, _-_, _<_, _≤_}
 use mathlib.Core.Path.{_≡_, refl, ap, _∙_, sym, subst}
 use mathlib.Core.List.{List, [], _∷_, _++_, append-assoc}
-use mathlib.Core.Bool.{Bool, true, false, cond, _&&_}
+use mathlib.Core.Bool.{true, cond, _&&_}
 use native.Mathlib.Omega.{arith}
 use native.Mathlib.Numerals.{sub-one}
 use lib.Dec.{eqb, ltb, leb}
 use lib.ListN.{length, getD, drop, length-append}
 use Rattle.std.proofs.shelf.Lists.{drop-more}
 use Rattle.std.proofs.shelf.Tests.{ltb-true, leb-true, eqb-true, eqb-false, and-parts, cond-both}
-use Rattle.logic.specs.Syntax.{Term, variable, constant, apply1, apply2, Connective, conjunction, disjunction, implication, Quantifier, every, some, Formula, pred0, pred1, pred2, negation, binary, quantified}
-use Rattle.logic.specs.Signs.{'x', 'c', 'f', 'g', 'p', 'q', 'r', '-', '&', '|', '>', 'A', 'E', 'open', 'close', 'comma', digit, joint, letter}
+use Rattle.logic.specs.Syntax.{Term, Connective, every, some, Formula}
+use Rattle.logic.specs.Signs.{'x', 'c', 'f', 'g', 'p', 'q', 'r', '-', '&', '|', '>', 'A', 'E', 'open', 'close', 'comma', digit, joint}
 use Rattle.logic.specs.Class.{Class, digits, opens, closes, commas, classOf, is}
 use Rattle.logic.specs.Text.{termText, text, termParts, parts, termLevels, levels, TermNamed, Named, names}
 use Rattle.logic.specs.Reading.{Misreading, not-allowed, ends-early, after-end, too-deep, too-many, Out, got, bad, bind, Head, head-variable, head-constant, head-apply1, head-apply2, Opening, open-pred0, open-pred1, open-pred2, open-negation, open-binary, open-quantified, withByte, sign, name, part, head, arguments, termBy, readTerm, opening, connective, bound, rest, formulaBy, readFormula}
 use Rattle.logic.proofs.Steps.{is-opens, is-closes, is-commas, is-digits, headByte, openingByte}
 
 -- the words stand in the bytes from one place to the other
-pub record Spelt (bytes words : List ℕ) (at i : ℕ) : Type 0 where
-  pub spelt : drop at bytes ≡ words ++ drop i bytes
-  pub place : i ≡ at + length words
+record Spelt (bytes words : List ℕ) (at i : ℕ) : Type 0 where
+  spelt : drop at bytes ≡ words ++ drop i bytes
+  place : i ≡ at + length words
 
 then : {bytes ws vs : List ℕ} {at i j : ℕ} → Spelt bytes ws at i → Spelt bytes vs i j → Spelt bytes (ws ++ vs) at j
 then {bytes} {ws} {vs} {at} {i} {j} a b =
@@ -75,9 +75,10 @@ byte-gives P bytes at o h =
 test-gives : {A : Type 0} (P : A → ℕ → ℕ → Type 0) (b w : ℕ) (x y : Out A) → (b ≡ w → Gives P x) → Gives P y → Gives P (cond (eqb b w) x y)
 test-gives P b w x y h k = cond-both (eqb b w) x y (Gives P) (λ e. h (eqb-true b w e)) (λ _. k)
 
-pub record Signed (bytes : List ℕ) (w at n i m : ℕ) : Type 0 where
-  pub stands : Spelt bytes (w ∷ []) at i
-  pub count : m ≡ n
+-- the byte w stands there, and is no part of its own
+record Signed (bytes : List ℕ) (w at n i m : ℕ) : Type 0 where
+  stands : Spelt bytes (w ∷ []) at i
+  count : m ≡ n
 
 signed : (bytes : List ℕ) (w at n b : ℕ) → Spelt bytes (b ∷ []) at (at + 1) → b ≡ w → Signed bytes w at n (at + 1) n
 signed bytes w at n b s e = record { stands = rw e at s; count = refl }

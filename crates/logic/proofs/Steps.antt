@@ -1,16 +1,15 @@
 -- One step of each reader. Assumes nothing.
-use Prim.Native.Nat.{ℕ, zero, suc, _+_, _-_, _<_}
-use mathlib.Core.Path.{_≡_, refl, ap, _∙_, sym}
-use mathlib.Core.List.{List, [], _∷_}
-use mathlib.Core.Bool.{Bool, true, false, cond, _&&_}
+use Prim.Native.Nat.{ℕ, zero, suc, _-_}
+use mathlib.Core.Path.{_≡_, refl}
+use mathlib.Core.List.{List}
+use mathlib.Core.Bool.{_&&_}
 use native.Mathlib.Omega.{arith}
-use native.Mathlib.Numerals.{add-one, sub-one}
+use native.Mathlib.Numerals.{sub-one}
 use lib.Dec.{eqb, ltb, leb}
-use lib.ListN.{length, getD}
 use Rattle.std.proofs.shelf.Ways.{tells}
 use Rattle.logic.specs.Signs.{'x', 'c', 'f', 'g', 'p', 'q', 'r', '-', 'open', letter}
-use Rattle.logic.specs.Class.{Class, none, digits, opens, closes, commas, classOf, is}
-use Rattle.logic.specs.Reading.{Out, got, bad, bind, too-deep, Head, head-variable, head-constant, head-apply1, head-apply2, Opening, open-pred0, open-pred1, open-pred2, open-negation, open-binary, open-quantified, termBy, readTerm, formulaBy, readFormula}
+use Rattle.logic.specs.Class.{digits, opens, closes, commas, classOf, is}
+use Rattle.logic.specs.Reading.{Out, bad, too-deep, Head, head-variable, head-constant, head-apply1, head-apply2, Opening, open-pred0, open-pred1, open-pred2, open-negation, open-binary, open-quantified, termBy, readTerm, formulaBy, readFormula}
 use Rattle.logic.specs.Syntax.{Term, Formula}
 
 -- with no level left, nothing is read further
