@@ -1,16 +1,15 @@
 -- One step of each reader. Assumes nothing.
-use Prim.Native.Nat.{ℕ, zero, suc, _+_, _-_, _<_}
-use mathlib.Core.Path.{_≡_, refl, ap, _∙_, sym}
-use mathlib.Core.List.{List, [], _∷_}
-use mathlib.Core.Bool.{Bool, true, false, cond}
+use Prim.Native.Nat.{ℕ, zero, suc, _-_}
+use mathlib.Core.Path.{_≡_, refl}
+use mathlib.Core.List.{List}
+use mathlib.Core.Bool.{_&&_}
 use native.Mathlib.Omega.{arith}
-use native.Mathlib.Numerals.{add-one, sub-one}
+use native.Mathlib.Numerals.{sub-one}
 use lib.Dec.{eqb, ltb, leb}
-use lib.ListN.{length, getD}
 use Rattle.std.proofs.shelf.Ways.{tells}
-use Rattle.logic.specs.Signs.{digit}
-use Rattle.logic.specs.Class.{Class, none, digits, opens, closes, commas, classOf, is}
-use Rattle.logic.specs.Reading.{Out, got, bad, bind, too-deep, termBy, readTerm, formulaBy, readFormula}
+use Rattle.logic.specs.Signs.{'x', 'c', 'f', 'g', 'p', 'q', 'r', '-', 'open', letter}
+use Rattle.logic.specs.Class.{digits, opens, closes, commas, classOf, is}
+use Rattle.logic.specs.Reading.{Out, bad, too-deep, Head, head-variable, head-constant, head-apply1, head-apply2, Opening, open-pred0, open-pred1, open-pred2, open-negation, open-binary, open-quantified, termBy, readTerm, formulaBy, readFormula}
 use Rattle.logic.specs.Syntax.{Term, Formula}
 
 -- with no level left, nothing is read further
@@ -39,3 +38,22 @@ is-closes b = grind (arith, tells)
 
 pub is-commas : (b : ℕ) → is (classOf b) commas ≡ eqb b 44
 is-commas b = grind (arith, tells)
+
+pub is-digits : (b : ℕ) → is (classOf b) digits ≡ (leb 48 b && ltb b 56)
+is-digits b = grind (arith, tells)
+
+-- the byte of what a term begins with
+abbrev pub headByte : Head → ℕ
+headByte head-variable = 'x'
+headByte head-constant = 'c'
+headByte head-apply1 = 'f'
+headByte head-apply2 = 'g'
+
+-- the byte of what a formula begins with
+abbrev pub openingByte : Opening → ℕ
+openingByte open-pred0 = 'p'
+openingByte open-pred1 = 'q'
+openingByte open-pred2 = 'r'
+openingByte open-negation = '-'
+openingByte open-binary = 'open'
+openingByte (open-quantified q) = letter q
