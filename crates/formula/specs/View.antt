@@ -17,6 +17,9 @@ term (Constant c) = pure.constant (c .digit)
 term (Apply1′ f p s) = pure.apply1 (f .digit) (term s)
 term (Apply2′ f p s q t) = pure.apply2 (f .digit) (term s) (term t)
 
+abbrev pub pair : Term × Term → pure.Term × pure.Term
+pair p = (term (p .0), term (p .1))
+
 abbrev pub connective : Connective → pure.Connective
 connective And = pure.conjunction
 connective Or = pure.disjunction

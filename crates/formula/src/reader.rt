@@ -6,7 +6,7 @@ ghost use Rattle.std.specs.Results.{Cases};
 ghost use Rattle.std.specs.Vec.{made};
 ghost use Rattle.logic.specs.Reading as reading;
 ghost use Rattle.logic.specs.Class as classes;
-ghost use Rattle.formula.specs.View.{connective, quantifier, term, formula};
+ghost use Rattle.formula.specs.View.{connective, quantifier, term, pair, formula};
 ghost use Rattle.formula.specs.Table.{class};
 ghost use Rattle.formula.specs.Heads.{digitOf, headOf, openingOf};
 ghost use Rattle.formula.specs.Answers.{same};
@@ -180,44 +180,36 @@ impl Reader<'_> {
             Head::Variable => Ok(Term::Variable(name)),
             Head::Constant => Ok(Term::Constant(name)),
             Head::Apply1 => {
-                self.sign(Class::Open)?;
-                let s = self.term(heap, left - 1)?;
-                self.sign(Class::Close)?;
+                let s = self.argument(heap, left - 1)?;
                 Ok(Term::Apply1(name, Box::new(heap, s)?))
             }
             Head::Apply2 => {
-                self.sign(Class::Open)?;
-                let s = self.term(heap, left - 1)?;
-                self.sign(Class::Comma)?;
-                let t = self.term(heap, left - 1)?;
-                self.sign(Class::Close)?;
+                let (s, t) = self.arguments(heap, left - 1)?;
                 Ok(Term::Apply2(name, Box::new(heap, s)?, Box::new(heap, t)?))
             }
         }
     }
 
-    // Takes the digit of a predicate and its term, of at most `left` levels.
-    fn one_place(&mut self, heap: Global, left: usize) -> Result<Formula, Fault>
-        ensures { λ r. ⌜ Step formula (reading.onePlace 200 left) (now (self .entry)) (now (self .exit)) r ⌝ }
+    // Takes a term of at most `left` levels in brackets.
+    fn argument(&mut self, heap: Global, left: usize) -> Result<Term, Fault>
+        ensures { λ r. ⌜ Step term (λ bytes. reading.argument (reading.readTerm 200 left bytes) bytes) (now (self .entry)) (now (self .exit)) r ⌝ }
     {
-        let name = self.name()?;
         self.sign(Class::Open)?;
         let s = self.term(heap, left)?;
         self.sign(Class::Close)?;
-        Ok(Formula::Predicate1(name, s))
+        Ok(s)
     }
 
-    // Takes the digit of a predicate and its two terms, of at most `left` levels.
-    fn two_places(&mut self, heap: Global, left: usize) -> Result<Formula, Fault>
-        ensures { λ r. ⌜ Step formula (reading.twoPlaces 200 left) (now (self .entry)) (now (self .exit)) r ⌝ }
+    // Takes two terms of at most `left` levels in brackets.
+    fn arguments(&mut self, heap: Global, left: usize) -> Result<(Term, Term), Fault>
+        ensures { λ r. ⌜ Step pair (λ bytes. reading.arguments (reading.readTerm 200 left bytes) bytes) (now (self .entry)) (now (self .exit)) r ⌝ }
     {
-        let name = self.name()?;
         self.sign(Class::Open)?;
         let s = self.term(heap, left)?;
         self.sign(Class::Comma)?;
         let t = self.term(heap, left)?;
         self.sign(Class::Close)?;
-        Ok(Formula::Predicate2(name, s, t))
+        Ok((s, t))
     }
 
     // Takes a formula of at most `left` levels.
@@ -226,24 +218,42 @@ impl Reader<'_> {
     {
         match self.opening(left)? {
             Opening::Predicate0 => Ok(Formula::Predicate0(self.name()?)),
-            Opening::Predicate1 => self.one_place(heap, left - 1),
-            Opening::Predicate2 => self.two_places(heap, left - 1),
+            Opening::Predicate1 => {
+                let name = self.name()?;
+                let s = self.argument(heap, left - 1)?;
+                Ok(Formula::Predicate1(name, s))
+            }
+            Opening::Predicate2 => {
+                let name = self.name()?;
+                let (s, t) = self.arguments(heap, left - 1)?;
+                Ok(Formula::Predicate2(name, s, t))
+            }
             Opening::Not => {
                 let a = self.formula(heap, left - 1)?;
                 Ok(Formula::Not(Box::new(heap, a)?))
             }
-            Opening::Bracket => {
-                let a = self.formula(heap, left - 1)?;
-                let connective = self.connective()?;
-                let b = self.formula(heap, left - 1)?;
-                self.sign(Class::Close)?;
-                Ok(Formula::Binary(connective, Box::new(heap, a)?, Box::new(heap, b)?))
-            }
-            Opening::Quantified(quantifier) => {
-                let x = self.bound()?;
-                let a = self.formula(heap, left - 1)?;
-                Ok(Formula::Quantified(quantifier, x, Box::new(heap, a)?))
-            }
+            Opening::Bracket => self.binary(heap, left - 1),
+            Opening::Quantified(quantifier) => self.quantified(heap, left - 1, quantifier),
         }
+    }
+
+    // Takes what stands after the bracket that opens a formula.
+    fn binary(&mut self, heap: Global, left: usize) -> Result<Formula, Fault>
+        ensures { λ r. ⌜ Step formula (λ bytes. reading.joined (reading.readFormula 200 left bytes) bytes) (now (self .entry)) (now (self .exit)) r ⌝ }
+    {
+        let a = self.formula(heap, left)?;
+        let connective = self.connective()?;
+        let b = self.formula(heap, left)?;
+        self.sign(Class::Close)?;
+        Ok(Formula::Binary(connective, Box::new(heap, a)?, Box::new(heap, b)?))
+    }
+
+    // Takes what stands after the letter of a quantifier.
+    fn quantified(&mut self, heap: Global, left: usize, which: Quantifier) -> Result<Formula, Fault>
+        ensures { λ r. ⌜ Step formula (λ bytes. reading.generalised (reading.readFormula 200 left bytes) (quantifier which) bytes) (now (self .entry)) (now (self .exit)) r ⌝ }
+    {
+        let x = self.bound()?;
+        let a = self.formula(heap, left)?;
+        Ok(Formula::Quantified(which, x, Box::new(heap, a)?))
     }
 }

@@ -59,29 +59,31 @@ head most left bytes at n =
     (λ b. cond (eqb b 'x') (part most head-variable left at n) (cond (eqb b 'c') (part most head-constant left at n)
     (cond (eqb b 'f') (part most head-apply1 left at n) (cond (eqb b 'g') (part most head-apply2 left at n) (bad not-allowed at)))))
 
-abbrev pub oneTerm : (ℕ → ℕ → Out Term) → ℕ → List ℕ → ℕ → ℕ → Out Term
-oneTerm rec d bytes at n =
-    bind (sign opens bytes at n) (λ _ at n. bind (rec at n) (λ s at n. bind (sign closes bytes at n) (λ _ at n. got (apply1 d s) at n)))
+-- a term in brackets
+abbrev pub argument : (ℕ → ℕ → Out Term) → List ℕ → ℕ → ℕ → Out Term
+argument rec bytes at n =
+    bind (sign opens bytes at n) (λ _ at n. bind (rec at n) (λ s at n. bind (sign closes bytes at n) (λ _ at n. got s at n)))
 
-abbrev pub twoTerms : (ℕ → ℕ → Out Term) → ℕ → List ℕ → ℕ → ℕ → Out Term
-twoTerms rec d bytes at n =
+-- two terms in brackets, parted by a comma
+abbrev pub arguments : (ℕ → ℕ → Out Term) → List ℕ → ℕ → ℕ → Out (Term × Term)
+arguments rec bytes at n =
     bind (sign opens bytes at n)
     (λ _ at n. bind (rec at n)
     (λ s at n. bind (sign commas bytes at n)
     (λ _ at n. bind (rec at n)
     (λ t at n. bind (sign closes bytes at n)
-    (λ _ at n. got (apply2 d s t) at n)))))
+    (λ _ at n. got (s, t) at n)))))
 
 -- what stands after the head and the digit of a term
-abbrev pub arguments : (ℕ → ℕ → Out Term) → Head → ℕ → List ℕ → ℕ → ℕ → Out Term
-arguments rec head-variable d bytes at n = got (variable d) at n
-arguments rec head-constant d bytes at n = got (constant d) at n
-arguments rec head-apply1 d bytes at n = oneTerm rec d bytes at n
-arguments rec head-apply2 d bytes at n = twoTerms rec d bytes at n
+abbrev pub applied : (ℕ → ℕ → Out Term) → Head → ℕ → List ℕ → ℕ → ℕ → Out Term
+applied rec head-variable d bytes at n = got (variable d) at n
+applied rec head-constant d bytes at n = got (constant d) at n
+applied rec head-apply1 d bytes at n = bind (argument rec bytes at n) (λ s at n. got (apply1 d s) at n)
+applied rec head-apply2 d bytes at n = bind (arguments rec bytes at n) (λ p at n. got (apply2 d (p .0) (p .1)) at n)
 
 abbrev pub termBy : (ℕ → ℕ → Out Term) → ℕ → ℕ → List ℕ → ℕ → ℕ → Out Term
 termBy rec most left bytes at n =
-    bind (head most left bytes at n) (λ h at n. bind (name bytes at n) (λ d at n. arguments rec h d bytes at n))
+    bind (head most left bytes at n) (λ h at n. bind (name bytes at n) (λ d at n. applied rec h d bytes at n))
 
 -- a term of at most so many levels
 abbrev pub readTerm : ℕ → ℕ → List ℕ → ℕ → ℕ → Out Term
@@ -107,38 +109,29 @@ abbrev pub bound : List ℕ → ℕ → ℕ → Out ℕ
 bound bytes at n =
     bind (withByte bytes at (λ b. cond (eqb b 'x') (got tt (at + 1) n) (bad not-allowed at))) (λ (_ : Unit {0}) at n. name bytes at n)
 
-abbrev pub onePlace : ℕ → ℕ → List ℕ → ℕ → ℕ → Out Formula
-onePlace most left bytes at n =
-    bind (name bytes at n)
-    (λ d at n. bind (sign opens bytes at n)
-    (λ _ at n. bind (readTerm most left bytes at n)
-    (λ s at n. bind (sign closes bytes at n)
-    (λ _ at n. got (pred1 d s) at n))))
-
-abbrev pub twoPlaces : ℕ → ℕ → List ℕ → ℕ → ℕ → Out Formula
-twoPlaces most left bytes at n =
-    bind (name bytes at n)
-    (λ d at n. bind (sign opens bytes at n)
-    (λ _ at n. bind (readTerm most left bytes at n)
-    (λ s at n. bind (sign commas bytes at n)
-    (λ _ at n. bind (readTerm most left bytes at n)
-    (λ t at n. bind (sign closes bytes at n)
-    (λ _ at n. got (pred2 d s t) at n))))))
-
--- what stands after the opening of a formula, with so many levels left
-abbrev pub rest : (ℕ → ℕ → Out Formula) → ℕ → ℕ → Opening → List ℕ → ℕ → ℕ → Out Formula
-rest rec most left open-pred0 bytes at n = bind (name bytes at n) (λ d at n. got (pred0 d) at n)
-rest rec most left open-pred1 bytes at n = onePlace most left bytes at n
-rest rec most left open-pred2 bytes at n = twoPlaces most left bytes at n
-rest rec most left open-negation bytes at n = bind (rec at n) (λ a at n. got (negation a) at n)
-rest rec most left open-binary bytes at n =
+-- what stands after the bracket that opens a formula
+abbrev pub joined : (ℕ → ℕ → Out Formula) → List ℕ → ℕ → ℕ → Out Formula
+joined rec bytes at n =
     bind (rec at n)
     (λ a at n. bind (connective bytes at n)
     (λ k at n. bind (rec at n)
     (λ b at n. bind (sign closes bytes at n)
     (λ _ at n. got (binary k a b) at n))))
-rest rec most left (open-quantified q) bytes at n =
-    bind (bound bytes at n) (λ x at n. bind (rec at n) (λ a at n. got (quantified q x a) at n))
+
+-- what stands after the letter of a quantifier
+abbrev pub generalised : (ℕ → ℕ → Out Formula) → Quantifier → List ℕ → ℕ → ℕ → Out Formula
+generalised rec q bytes at n = bind (bound bytes at n) (λ x at n. bind (rec at n) (λ a at n. got (quantified q x a) at n))
+
+-- what stands after the opening of a formula, with so many levels left
+abbrev pub rest : (ℕ → ℕ → Out Formula) → ℕ → ℕ → Opening → List ℕ → ℕ → ℕ → Out Formula
+rest rec most left open-pred0 bytes at n = bind (name bytes at n) (λ d at n. got (pred0 d) at n)
+rest rec most left open-pred1 bytes at n =
+    bind (name bytes at n) (λ d at n. bind (argument (readTerm most left bytes) bytes at n) (λ s at n. got (pred1 d s) at n))
+rest rec most left open-pred2 bytes at n =
+    bind (name bytes at n) (λ d at n. bind (arguments (readTerm most left bytes) bytes at n) (λ p at n. got (pred2 d (p .0) (p .1)) at n))
+rest rec most left open-negation bytes at n = bind (rec at n) (λ a at n. got (negation a) at n)
+rest rec most left open-binary bytes at n = joined rec bytes at n
+rest rec most left (open-quantified q) bytes at n = generalised rec q bytes at n
 
 abbrev pub formulaBy : (ℕ → ℕ → Out Formula) → ℕ → ℕ → List ℕ → ℕ → ℕ → Out Formula
 formulaBy rec most left bytes at n = bind (opening most left bytes at n) (λ o at n. rest rec most (left - 1) o bytes at n)

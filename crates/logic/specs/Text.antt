@@ -5,16 +5,23 @@ use mathlib.Core.List.{List, [], _∷_, _++_}
 use Rattle.logic.specs.Syntax.{Term, variable, constant, apply1, apply2, Formula, pred0, pred1, pred2, negation, binary, quantified}
 use Rattle.logic.specs.Signs.{'x', 'c', 'f', 'g', 'p', 'q', 'r', '-', 'open', 'close', 'comma', digit, joint, letter}
 
+-- the text of one term, and of two, in brackets
+abbrev pub enclosed : List ℕ → List ℕ
+enclosed s = 'open' ∷ (s ++ ('close' ∷ []))
+
+abbrev pub paired : List ℕ → List ℕ → List ℕ
+paired s t = 'open' ∷ (s ++ ('comma' ∷ (t ++ ('close' ∷ []))))
+
 abbrev pub termText : Term → List ℕ
 termText (variable x) = 'x' ∷ digit x ∷ []
 termText (constant c) = 'c' ∷ digit c ∷ []
-termText (apply1 f s) = 'f' ∷ digit f ∷ 'open' ∷ (termText s ++ ('close' ∷ []))
-termText (apply2 f s t) = 'g' ∷ digit f ∷ 'open' ∷ (termText s ++ ('comma' ∷ (termText t ++ ('close' ∷ []))))
+termText (apply1 f s) = 'f' ∷ digit f ∷ enclosed (termText s)
+termText (apply2 f s t) = 'g' ∷ digit f ∷ paired (termText s) (termText t)
 
 abbrev pub text : Formula → List ℕ
 text (pred0 p) = 'p' ∷ digit p ∷ []
-text (pred1 p s) = 'q' ∷ digit p ∷ 'open' ∷ (termText s ++ ('close' ∷ []))
-text (pred2 p s t) = 'r' ∷ digit p ∷ 'open' ∷ (termText s ++ ('comma' ∷ (termText t ++ ('close' ∷ []))))
+text (pred1 p s) = 'q' ∷ digit p ∷ enclosed (termText s)
+text (pred2 p s t) = 'r' ∷ digit p ∷ paired (termText s) (termText t)
 text (negation a) = '-' ∷ text a
 text (binary k a b) = 'open' ∷ (text a ++ (joint k ∷ (text b ++ ('close' ∷ []))))
 text (quantified q x a) = letter q ∷ 'x' ∷ digit x ∷ text a
