@@ -7,7 +7,7 @@ use native.Mathlib.Omega.{arith}
 use native.Mathlib.Numerals.{sub-one}
 use lib.Dec.{eqb, ltb, leb}
 use Rattle.std.proofs.shelf.Ways.{tells}
-use Rattle.logic.specs.Signs.{'x', 'c', 'f', 'g', 'p', 'q', 'r', '-', 'open', letter}
+use Rattle.logic.specs.Signs.{'x', 'c', 'f', 'g', 'p', 'q', 'r', '-', 'open', 'close', 'comma', letter}
 use Rattle.logic.specs.Class.{digits, opens, closes, commas, classOf, is}
 use Rattle.logic.specs.Reading.{Out, bad, too-deep, Head, head-variable, head-constant, head-apply1, head-apply2, Opening, open-pred0, open-pred1, open-pred2, open-negation, open-binary, open-quantified, termBy, readTerm, formulaBy, readFormula}
 use Rattle.logic.specs.Syntax.{Term, Formula}
@@ -30,13 +30,13 @@ unroll-formula most zero bytes at n = none-left-formula (λ at n. bad too-deep a
 unroll-formula most (suc left) bytes at n = rw sub-one refl
 
 -- the bytes of each class that the reader asks for
-pub is-opens : (b : ℕ) → is (classOf b) opens ≡ eqb b 40
+pub is-opens : (b : ℕ) → is (classOf b) opens ≡ eqb b 'open'
 is-opens b = grind (arith, tells)
 
-pub is-closes : (b : ℕ) → is (classOf b) closes ≡ eqb b 41
+pub is-closes : (b : ℕ) → is (classOf b) closes ≡ eqb b 'close'
 is-closes b = grind (arith, tells)
 
-pub is-commas : (b : ℕ) → is (classOf b) commas ≡ eqb b 44
+pub is-commas : (b : ℕ) → is (classOf b) commas ≡ eqb b 'comma'
 is-commas b = grind (arith, tells)
 
 pub is-digits : (b : ℕ) → is (classOf b) digits ≡ (leb 48 b && ltb b 56)

@@ -2,5 +2,9 @@ pub mod Syntax
 pub mod Signs
 pub mod Text
 pub mod OneMeaning
+pub mod Depths
 pub mod Class
 pub mod Reading
+pub mod Misreadings
+pub mod Agreement
+pub mod Long

@@ -53,11 +53,14 @@ name bytes at n = withByte bytes at (λ b. cond (is (classOf b) digits) (got (b 
 abbrev pub part : {A : Type 0} → ℕ → A → ℕ → ℕ → ℕ → Out A
 part most h left at n = cond (eqb left 0) (bad too-deep at) (cond (ltb n most) (got h (at + 1) (n + 1)) (bad too-many at))
 
+-- what a term begins with, at the byte b
+abbrev pub headAt : ℕ → ℕ → ℕ → ℕ → ℕ → Out Head
+headAt most left at n b =
+    cond (eqb b 'x') (part most head-variable left at n) (cond (eqb b 'c') (part most head-constant left at n)
+    (cond (eqb b 'f') (part most head-apply1 left at n) (cond (eqb b 'g') (part most head-apply2 left at n) (bad not-allowed at))))
+
 abbrev pub head : ℕ → ℕ → List ℕ → ℕ → ℕ → Out Head
-head most left bytes at n =
-    withByte bytes at
-    (λ b. cond (eqb b 'x') (part most head-variable left at n) (cond (eqb b 'c') (part most head-constant left at n)
-    (cond (eqb b 'f') (part most head-apply1 left at n) (cond (eqb b 'g') (part most head-apply2 left at n) (bad not-allowed at)))))
+head most left bytes at n = withByte bytes at (headAt most left at n)
 
 -- a term in brackets
 abbrev pub argument : (ℕ → ℕ → Out Term) → List ℕ → ℕ → ℕ → Out Term
@@ -90,19 +93,25 @@ abbrev pub readTerm : ℕ → ℕ → List ℕ → ℕ → ℕ → Out Term
 readTerm most zero bytes at n = termBy (λ at n. bad too-deep at) most 0 bytes at n
 readTerm most (suc left) bytes at n = termBy (readTerm most left bytes) most (suc left) bytes at n
 
-abbrev pub opening : ℕ → ℕ → List ℕ → ℕ → ℕ → Out Opening
-opening most left bytes at n =
-    withByte bytes at
-    (λ b. cond (eqb b 'p') (part most open-pred0 left at n) (cond (eqb b 'q') (part most open-pred1 left at n)
+-- what a formula begins with, at the byte b
+abbrev pub openingAt : ℕ → ℕ → ℕ → ℕ → ℕ → Out Opening
+openingAt most left at n b =
+    cond (eqb b 'p') (part most open-pred0 left at n) (cond (eqb b 'q') (part most open-pred1 left at n)
     (cond (eqb b 'r') (part most open-pred2 left at n) (cond (eqb b '-') (part most open-negation left at n)
     (cond (eqb b 'open') (part most open-binary left at n) (cond (eqb b 'A') (part most (open-quantified every) left at n)
-    (cond (eqb b 'E') (part most (open-quantified some) left at n) (bad not-allowed at))))))))
+    (cond (eqb b 'E') (part most (open-quantified some) left at n) (bad not-allowed at)))))))
+
+abbrev pub opening : ℕ → ℕ → List ℕ → ℕ → ℕ → Out Opening
+opening most left bytes at n = withByte bytes at (openingAt most left at n)
+
+-- the connective between two formulas, at the byte b
+abbrev pub connectiveAt : ℕ → ℕ → ℕ → Out Connective
+connectiveAt at n b =
+    cond (eqb b '&') (got conjunction (at + 1) n) (cond (eqb b '|') (got disjunction (at + 1) n)
+    (cond (eqb b '>') (got implication (at + 1) n) (bad not-allowed at)))
 
 abbrev pub connective : List ℕ → ℕ → ℕ → Out Connective
-connective bytes at n =
-    withByte bytes at
-    (λ b. cond (eqb b '&') (got conjunction (at + 1) n) (cond (eqb b '|') (got disjunction (at + 1) n)
-    (cond (eqb b '>') (got implication (at + 1) n) (bad not-allowed at))))
+connective bytes at n = withByte bytes at (connectiveAt at n)
 
 -- the variable that a quantifier binds
 abbrev pub bound : List ℕ → ℕ → ℕ → Out ℕ
