@@ -1,2 +1,4 @@
 pub mod Marks
 pub mod Table
+pub mod Told
+pub mod Whole

@@ -11,7 +11,8 @@ ghost use Rattle.formula.specs.Table.{class};
 ghost use Rattle.formula.specs.Heads.{digitOf, headOf, openingOf};
 ghost use Rattle.formula.specs.Answers.{same};
 ghost use Rattle.formula.specs.Steps.{Step};
-ghost use Rattle.formula.specs.declared.fault.Fault.the-variants.{EndsEarly};
+ghost use Rattle.formula.specs.Told.{FormulaRead, TermRead};
+ghost use Rattle.formula.specs.declared.fault.Fault.the-variants.{EndsEarly, AfterEnd};
 use crate::class::Class;
 use crate::fault::Fault;
 use crate::fault::FaultFromRefused;
@@ -28,6 +29,30 @@ pub const MOST_PARTS: usize = 200;
 
 /// The most levels that a term or formula may have; every recursion over a tree that was read is at most so deep.
 pub const MOST_LEVELS: usize = 24;
+
+impl Formula {
+    /// The formula that the bytes are the text of.
+    pub fn read(heap: Global, bytes: &[u8]) -> Result<Formula, Fault>
+        ensures { λ r. ⌜ FormulaRead (now (bytes .entry)) r ⌝ }
+    {
+        let mut reader = Reader::new(bytes, Source::Formula);
+        let formula = reader.formula(heap, MOST_LEVELS)?;
+        reader.end()?;
+        Ok(formula)
+    }
+}
+
+impl Term {
+    /// The term that the bytes are the text of.
+    pub fn read(heap: Global, bytes: &[u8]) -> Result<Term, Fault>
+        ensures { λ r. ⌜ TermRead (now (bytes .entry)) r ⌝ }
+    {
+        let mut reader = Reader::new(bytes, Source::Term);
+        let term = reader.term(heap, MOST_LEVELS)?;
+        reader.end()?;
+        Ok(term)
+    }
+}
 
 // What a term begins with.
 #[derive(Clone, Copy)]
@@ -58,6 +83,19 @@ struct Reader<'a> {
     parts: usize,
 }
 
+impl<'a> Reader<'a> {
+    fn new(bytes: &'a [u8], source: Source) -> Reader<'a>
+        ensures { λ r. ⌜ (now (r .bytes) ≡ now (bytes .entry)) × (r .source ≡ source) × (r .at ≡ 0) × (r .parts ≡ 0) ⌝ }
+    {
+        Reader {
+            bytes,
+            source,
+            at: 0,
+            parts: 0,
+        }
+    }
+}
+
 impl Reader<'_> {
     // The next byte.
     fn byte(&self) -> Result<u8, Fault>
@@ -67,6 +105,17 @@ impl Reader<'_> {
             Ok(self.bytes[self.at])
         } else {
             Err(Fault::EndsEarly(self.source, self.at))
+        }
+    }
+
+    // Nothing stands behind what was read.
+    fn end(&self) -> Result<(), Fault>
+        ensures { λ r. ⌜ Cases r (λ _. length (now (now (self .entry) .bytes)) ≤ now (self .entry) .at) (λ e. (now (self .entry) .at < length (now (now (self .entry) .bytes))) × (e ≡ AfterEnd (now (self .entry) .source) (now (self .entry) .at))) ⌝ }
+    {
+        if self.at < self.bytes.len() {
+            Err(Fault::AfterEnd(self.source, self.at))
+        } else {
+            Ok(())
         }
     }
 
