@@ -4,6 +4,7 @@ ghost use Rattle.formula.specs.Faults.{numberOf, layerOf, placeOf, sourceOf};
 ghost use Rattle.formula.specs.declared.fault.Fault.the-variants.{Memory};
 use std::alloc::AllocError;
 use std::alloc::Refused;
+use std::error::Error;
 use std::fmt;
 
 /// Which text a fault of reading is in.
@@ -121,3 +122,5 @@ pub impl<T: Drop> From<Refused<T>> for Fault as FaultFromRefused {
         Fault::Memory
     }
 }
+
+pub impl Error for Fault as FaultError {}

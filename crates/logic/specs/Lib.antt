@@ -8,3 +8,4 @@ pub mod Reading
 pub mod Misreadings
 pub mod Agreement
 pub mod Long
+pub mod Examples

@@ -1,0 +1,32 @@
+-- What a judgement says of the bytes of a sentence. Assumes nothing.
+use Prim.Native.Nat.{ℕ, _<_}
+use mathlib.Core.Path.{_≡_}
+use mathlib.Core.Bool.{false}
+use mathlib.Core.List.{List}
+use lib.ListN.{getD}
+use Rattle.logic.specs.Syntax as pure
+use Rattle.logic.specs.Syntax.{free}
+use Rattle.logic.specs.Text.{names, parts, levels, Reads}
+use Rattle.logic.specs.Misreadings.{formulas}
+use Rattle.formula.specs.Told.{Meant}
+use Rattle.formula.specs.declared.fault.Fault.{Fault}
+use Rattle.formula.specs.declared.variables.Variables.{Variables}
+use Rattle.sentences.specs.declared.judgement.Judgement.{Judgement}
+use Rattle.sentences.specs.declared.judgement.Judgement.the-variants.{Formula, Refused}
+
+-- the bytes are the text of a formula with these measures
+pub record Measured (bytes : List ℕ) (p l : ℕ) (v : Variables) : Type 0 where
+  pub sense : pure.Formula
+  pub read : Reads bytes sense
+  pub of-parts : p ≡ parts sense
+  pub of-levels : l ≡ levels sense
+  pub of-free : (x : ℕ) → x < names → getD (v .holds) x false ≡ free x sense
+
+-- the bytes are the text of no formula, and the fault means what it should
+pub record Faulty (bytes : List ℕ) (e : Fault) : Type 0 where
+  pub none : (a : pure.Formula) → Reads bytes a → ⊥
+  pub means : Meant formulas bytes e
+
+abbrev pub Judged : List ℕ → Judgement → Type 0
+Judged bytes (Formula p l v) = Measured bytes p l v
+Judged bytes (Refused e) = Faulty bytes e

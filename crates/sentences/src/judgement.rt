@@ -1,0 +1,33 @@
+// What is said of one sentence.
+ghost use mathlib.Core.Path.{_≡_};
+ghost use Rattle.std.specs.Results.{Cases};
+ghost use Rattle.formula.specs.declared.fault.Fault.the-variants.{Memory};
+ghost use Rattle.sentences.specs.Judged.{Judged};
+use formula::Fault;
+use formula::Formula;
+use formula::Variables;
+use std::alloc::Global;
+
+/// A formula's measures, or why the sentence is none.
+#[derive(Clone, Copy)]
+pub enum Judgement {
+    Formula(usize, usize, Variables),
+    Refused(Fault),
+}
+
+impl Judgement {
+    /// Judges the bytes of a sentence; fails only for want of memory.
+    pub fn of(heap: Global, sentence: &[u8]) -> Result<Judgement, Fault>
+        ensures { λ r. ⌜ Cases r (Judged (now (sentence .entry))) (λ e. e ≡ Memory) ⌝ }
+    {
+        match Formula::read(heap, sentence) {
+            Ok(formula) => Ok(Judgement::Formula(
+                formula.parts(),
+                formula.levels(),
+                formula.free_variables(),
+            )),
+            Err(Fault::Memory) => Err(Fault::Memory),
+            Err(fault) => Ok(Judgement::Refused(fault)),
+        }
+    }
+}
