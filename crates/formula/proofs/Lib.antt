@@ -1,4 +1,4 @@
 pub mod Marks
-pub mod Table
+pub mod Entries
 pub mod Told
 pub mod Whole

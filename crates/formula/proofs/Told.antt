@@ -20,9 +20,8 @@ use Rattle.formula.specs.declared.fault.Fault.{Fault}
 use Rattle.formula.specs.declared.fault.Fault.the-variants.{NotAllowed, EndsEarly, AfterEnd, TooDeep, TooMany, BufferShort, Memory}
 
 module _ {X A : Type 0} (G : Grammar A) (Is : A → Type 0) (verdict : Verdict A) (s : Source) (view : X → A) (bytes : List ℕ)
-  (is-read : (a : A) → Is a → verdict ≡ reads a) (read-is : (a : A) → verdict ≡ reads a → Is a)
-  (means : (k : Misreading) (i : ℕ) → verdict ≡ faulty k i → Means G bytes k i) where
-
+    (is-read : (a : A) → Is a → verdict ≡ reads a) (read-is : (a : A) → verdict ≡ reads a → Is a)
+    (means : (k : Misreading) (i : ℕ) → verdict ≡ faulty k i → Means G bytes k i) where
   not-both : (k : Misreading) (i : ℕ) → verdict ≡ faulty k i → (a : A) → Is a → ⊥
   not-both k i e a h = let both : reads a ≡ faulty k i = sym (is-read a h) ∙ e in let no : _≡_ {A = ℕ} 0 1 = cc in omega arith
 

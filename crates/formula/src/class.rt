@@ -3,6 +3,7 @@ ghost use mathlib.Core.Path.{_≡_};
 ghost use lib.Dec.{T};
 ghost use Rattle.logic.specs.Class.{classOf, is};
 ghost use Rattle.formula.specs.Table.{class, follows};
+use crate::table::CLASSES;
 
 /// What a byte can be in a text: a digit, a bracket, a comma, else the sign that it is or begins, or none.
 #[derive(Clone, Copy, Debug)]
@@ -26,41 +27,6 @@ pub enum Class {
     Every,
     Some,
 }
-
-const CLASSES: [Class; 256] = [
-    Class::None, Class::None, Class::None, Class::None, Class::None, Class::None, Class::None, Class::None,
-    Class::None, Class::None, Class::None, Class::None, Class::None, Class::None, Class::None, Class::None,
-    Class::None, Class::None, Class::None, Class::None, Class::None, Class::None, Class::None, Class::None,
-    Class::None, Class::None, Class::None, Class::None, Class::None, Class::None, Class::None, Class::None,
-    Class::None, Class::None, Class::None, Class::None, Class::None, Class::None, Class::And, Class::None,
-    Class::Open, Class::Close, Class::None, Class::None, Class::Comma, Class::Not, Class::None, Class::None,
-    Class::Digit, Class::Digit, Class::Digit, Class::Digit, Class::Digit, Class::Digit, Class::Digit, Class::Digit,
-    Class::None, Class::None, Class::None, Class::None, Class::None, Class::None, Class::Implies, Class::None,
-    Class::None, Class::Every, Class::None, Class::None, Class::None, Class::Some, Class::None, Class::None,
-    Class::None, Class::None, Class::None, Class::None, Class::None, Class::None, Class::None, Class::None,
-    Class::None, Class::None, Class::None, Class::None, Class::None, Class::None, Class::None, Class::None,
-    Class::None, Class::None, Class::None, Class::None, Class::None, Class::None, Class::None, Class::None,
-    Class::None, Class::None, Class::None, Class::Constant, Class::None, Class::None, Class::Function1, Class::Function2,
-    Class::None, Class::None, Class::None, Class::None, Class::None, Class::None, Class::None, Class::None,
-    Class::Predicate0, Class::Predicate1, Class::Predicate2, Class::None, Class::None, Class::None, Class::None, Class::None,
-    Class::Variable, Class::None, Class::None, Class::None, Class::Or, Class::None, Class::None, Class::None,
-    Class::None, Class::None, Class::None, Class::None, Class::None, Class::None, Class::None, Class::None,
-    Class::None, Class::None, Class::None, Class::None, Class::None, Class::None, Class::None, Class::None,
-    Class::None, Class::None, Class::None, Class::None, Class::None, Class::None, Class::None, Class::None,
-    Class::None, Class::None, Class::None, Class::None, Class::None, Class::None, Class::None, Class::None,
-    Class::None, Class::None, Class::None, Class::None, Class::None, Class::None, Class::None, Class::None,
-    Class::None, Class::None, Class::None, Class::None, Class::None, Class::None, Class::None, Class::None,
-    Class::None, Class::None, Class::None, Class::None, Class::None, Class::None, Class::None, Class::None,
-    Class::None, Class::None, Class::None, Class::None, Class::None, Class::None, Class::None, Class::None,
-    Class::None, Class::None, Class::None, Class::None, Class::None, Class::None, Class::None, Class::None,
-    Class::None, Class::None, Class::None, Class::None, Class::None, Class::None, Class::None, Class::None,
-    Class::None, Class::None, Class::None, Class::None, Class::None, Class::None, Class::None, Class::None,
-    Class::None, Class::None, Class::None, Class::None, Class::None, Class::None, Class::None, Class::None,
-    Class::None, Class::None, Class::None, Class::None, Class::None, Class::None, Class::None, Class::None,
-    Class::None, Class::None, Class::None, Class::None, Class::None, Class::None, Class::None, Class::None,
-    Class::None, Class::None, Class::None, Class::None, Class::None, Class::None, Class::None, Class::None,
-    Class::None, Class::None, Class::None, Class::None, Class::None, Class::None, Class::None, Class::None,
-];
 
 impl Class {
     /// The class of a byte.

@@ -3,7 +3,8 @@
 //   name     the digit of a name
 //   tree     terms and formulas as trees
 //   measures parts, levels and free variables of a tree
-//   class    the class of each byte value
+//   class    the classes of bytes
+//   table    the class of each byte value
 //   fault    what a call can refuse, and for what
 //   reader   trees from bytes
 mod class;
@@ -11,6 +12,7 @@ mod fault;
 mod measures;
 mod name;
 mod reader;
+mod table;
 mod tree;
 mod variables;
 

@@ -71,7 +71,7 @@ left-then L M K w d v c p q =
     record {
       make = λ u e h. rw (append-assoc w v u, append-assoc d c e) (p .make (v ++ u) (c ++ e) (q .make u e h));
       split = λ u e h.
-        let a = p .split (v ++ u) e (rw (append-assoc w v u) at h) in
-        let b = q .split u (a .0) (a .2) in
-        (b .0, a .1 ∙ ap (λ (l : List ℕ). d ++ l) (b .1) ∙ sym (append-assoc d c (b .0)), b .2);
+          let a = p .split (v ++ u) e (rw (append-assoc w v u) at h) in
+          let b = q .split u (a .0) (a .2) in
+          (b .0, a .1 ∙ ap (λ (l : List ℕ). d ++ l) (b .1) ∙ sym (append-assoc d c (b .0)), b .2);
     }

@@ -148,9 +148,9 @@ told-early =
       short-formula = short formulas formulas-thrifty;
       short-term = short terms terms-thrifty;
       not-read = λ bytes n long has a e.
-        let r = formula-read (take n bytes) a e in not-whole formulas formulas-thrifty bytes n long has a (r .formed) (r .spelt);
+          let r = formula-read (take n bytes) a e in not-whole formulas formulas-thrifty bytes n long has a (r .formed) (r .spelt);
       told = λ bytes n long has k i e. carried formulas formulas-thrifty bytes n long has k i (formula-means (take n bytes) k i e);
       term-not-read = λ bytes n long has t e.
-        let r = term-read (take n bytes) t e in not-whole terms terms-thrifty bytes n long has t (r .formed) (r .spelt);
+          let r = term-read (take n bytes) t e in not-whole terms terms-thrifty bytes n long has t (r .formed) (r .spelt);
       term-told = λ bytes n long has k i e. carried terms terms-thrifty bytes n long has k i (term-means (take n bytes) k i e);
     }

@@ -44,7 +44,10 @@ argument-into l K u e a =
     let t = a .after in
     let c = t .after in
     record {
-      tree = t .tree; ok = t .ok; v = c .v; f = c .f;
+      tree = t .tree;
+      ok = t .ok;
+      v = c .v;
+      f = c .f;
       spelt = cc (a .spelt, t .spelt, c .spelt, append-assoc (termText (t .tree)) ('close' ∷ []) (c .v));
       marked = cc (a .marked, t .marked, c .marked, append-assoc (termDepths l (t .tree)) (0 ∷ []) (c .f));
       after = c .after;
@@ -53,10 +56,19 @@ argument-into l K u e a =
 argument-out : (l : ℕ) (K : Language) (s : Term) → TermNamed s → (v f : List ℕ) → K v f → Argument l K (enclosed (termText s) ++ v) (enclosedDepths (termDepths l s) ++ f)
 argument-out l K s ok v f k =
     record {
-      tree = tt; ok = tt; v = (termText s ++ ('close' ∷ [])) ++ v; f = (termDepths l s ++ (0 ∷ [])) ++ f; spelt = refl; marked = refl;
+      tree = tt;
+      ok = tt;
+      v = (termText s ++ ('close' ∷ [])) ++ v;
+      f = (termDepths l s ++ (0 ∷ [])) ++ f;
+      spelt = refl;
+      marked = refl;
       after = record {
-        tree = s; ok = ok; v = 'close' ∷ v; f = 0 ∷ f;
-        spelt = append-assoc (termText s) ('close' ∷ []) v; marked = append-assoc (termDepths l s) (0 ∷ []) f;
+        tree = s;
+        ok = ok;
+        v = 'close' ∷ v;
+        f = 0 ∷ f;
+        spelt = append-assoc (termText s) ('close' ∷ []) v;
+        marked = append-assoc (termDepths l s) (0 ∷ []) f;
         after = record { tree = tt; ok = tt; v = v; f = f; spelt = refl; marked = refl; after = k };
       };
     }
@@ -81,7 +93,10 @@ arguments-into l K u e a =
     let t = c .after in
     let d = t .after in
     record {
-      tree = (s .tree, t .tree); ok = (s .ok, t .ok); v = d .v; f = d .f;
+      tree = (s .tree, t .tree);
+      ok = (s .ok, t .ok);
+      v = d .v;
+      f = d .f;
       spelt = cc (a .spelt, s .spelt, c .spelt, t .spelt, d .spelt, regroup (termText (s .tree)) (termText (t .tree)) 'comma' 'close' (d .v));
       marked = cc (a .marked, s .marked, c .marked, t .marked, d .marked, regroup (termDepths l (s .tree)) (termDepths l (t .tree)) 0 0 (d .f));
       after = d .after;
@@ -90,14 +105,33 @@ arguments-into l K u e a =
 arguments-out : (l : ℕ) (K : Language) (s t : Term) → TermNamed s → TermNamed t → (v f : List ℕ) → K v f → Arguments l K (paired (termText s) (termText t) ++ v) (pairedDepths (termDepths l s) (termDepths l t) ++ f)
 arguments-out l K s t ok ok′ v f k =
     record {
-      tree = tt; ok = tt; v = (termText s ++ ('comma' ∷ (termText t ++ ('close' ∷ [])))) ++ v; f = (termDepths l s ++ (0 ∷ (termDepths l t ++ (0 ∷ [])))) ++ f; spelt = refl; marked = refl;
+      tree = tt;
+      ok = tt;
+      v = (termText s ++ ('comma' ∷ (termText t ++ ('close' ∷ [])))) ++ v;
+      f = (termDepths l s ++ (0 ∷ (termDepths l t ++ (0 ∷ [])))) ++ f;
+      spelt = refl;
+      marked = refl;
       after = record {
-        tree = s; ok = ok; v = 'comma' ∷ (termText t ++ ('close' ∷ v)); f = 0 ∷ (termDepths l t ++ (0 ∷ f));
-        spelt = regroup (termText s) (termText t) 'comma' 'close' v; marked = regroup (termDepths l s) (termDepths l t) 0 0 f;
+        tree = s;
+        ok = ok;
+        v = 'comma' ∷ (termText t ++ ('close' ∷ v));
+        f = 0 ∷ (termDepths l t ++ (0 ∷ f));
+        spelt = regroup (termText s) (termText t) 'comma' 'close' v;
+        marked = regroup (termDepths l s) (termDepths l t) 0 0 f;
         after = record {
-          tree = tt; ok = tt; v = termText t ++ ('close' ∷ v); f = termDepths l t ++ (0 ∷ f); spelt = refl; marked = refl;
+          tree = tt;
+          ok = tt;
+          v = termText t ++ ('close' ∷ v);
+          f = termDepths l t ++ (0 ∷ f);
+          spelt = refl;
+          marked = refl;
           after = record {
-            tree = t; ok = ok′; v = 'close' ∷ v; f = 0 ∷ f; spelt = refl; marked = refl;
+            tree = t;
+            ok = ok′;
+            v = 'close' ∷ v;
+            f = 0 ∷ f;
+            spelt = refl;
+            marked = refl;
             after = record { tree = tt; ok = tt; v = v; f = f; spelt = refl; marked = refl; after = k };
           };
         };
@@ -134,7 +168,12 @@ headed-into head-apply2 l K u e q =
 headed : (h : Head) (l : ℕ) (K : Language) (d : ℕ) → d < names → (v f : List ℕ) → Behind h l K v f → (u e : List ℕ) → u ≡ headByte h ∷ digit d ∷ v → e ≡ l ∷ 0 ∷ f → Headed h l K u e
 headed h l K d ok v f k u e p q =
     record {
-      tree = tt; ok = tt; v = digit d ∷ v; f = 0 ∷ f; spelt = p; marked = q;
+      tree = tt;
+      ok = tt;
+      v = digit d ∷ v;
+      f = 0 ∷ f;
+      spelt = p;
+      marked = q;
       after = record { tree = d; ok = ok; v = v; f = f; spelt = refl; marked = refl; after = k };
     }
 
@@ -167,12 +206,12 @@ head-left h l K =
     record {
       make = λ u e k. headed-into h l K (headByte h ∷ u) (l ∷ e) (record { tree = tt; ok = tt; v = u; f = e; spelt = refl; marked = refl; after = k });
       split = λ u e p.
-        let o = out-of-term l K (headByte h ∷ u) e p in
-        let q = o .1 in
-        let first : headByte (o .0) ≡ headByte h = cc (q .spelt) in
-        let tail : q .v ≡ u = cc (q .spelt) in
-        let moved : Digit (Behind (o .0) l K) u (q .f) = subst (λ z. Digit (Behind (o .0) l K) z (q .f)) tail (q .after) in
-        (q .f, q .marked, subst (λ z. Digit (Behind z l K) u (q .f)) (same-head (o .0) h first) moved);
+          let o = out-of-term l K (headByte h ∷ u) e p in
+          let q = o .1 in
+          let first : headByte (o .0) ≡ headByte h = cc (q .spelt) in
+          let tail : q .v ≡ u = cc (q .spelt) in
+          let moved : Digit (Behind (o .0) l K) u (q .f) = subst (λ z. Digit (Behind (o .0) l K) z (q .f)) tail (q .after) in
+          (q .f, q .marked, subst (λ z. Digit (Behind z l K) u (q .f)) (same-head (o .0) h first) moved);
     }
 
 term-some : (l : ℕ) (K : Language) (e : List ℕ) → TermAt l K [] e → ⊥
@@ -218,7 +257,10 @@ opened-into open-binary l K u e q =
     let b = k .after in
     let c = b .after in
     record {
-      tree = binary (k .tree) (a .tree) (b .tree); ok = (a .ok, b .ok); v = c .v; f = c .f;
+      tree = binary (k .tree) (a .tree) (b .tree);
+      ok = (a .ok, b .ok);
+      v = c .v;
+      f = c .f;
       spelt = cc (q .spelt, a .spelt, k .spelt, b .spelt, c .spelt, regroup (text (a .tree)) (text (b .tree)) (joint (k .tree)) 'close' (c .v));
       marked = cc (q .marked, a .marked, k .marked, b .marked, c .marked, regroup (depths (suc l) (a .tree)) (depths (suc l) (b .tree)) 0 0 (c .f));
       after = c .after;
@@ -228,8 +270,13 @@ opened-into (open-quantified w) l K u e q =
     let d = x .after in
     let a = d .after in
     record {
-      tree = quantified w (d .tree) (a .tree); ok = (d .ok, a .ok); v = a .v; f = a .f;
-      spelt = cc (q .spelt, x .spelt, d .spelt, a .spelt); marked = cc (q .marked, x .marked, d .marked, a .marked); after = a .after;
+      tree = quantified w (d .tree) (a .tree);
+      ok = (d .ok, a .ok);
+      v = a .v;
+      f = a .f;
+      spelt = cc (q .spelt, x .spelt, d .spelt, a .spelt);
+      marked = cc (q .marked, x .marked, d .marked, a .marked);
+      after = a .after;
     }
 
 opened : (o : Opening) (l : ℕ) (K : Language) (v f : List ℕ) → Rest o l K v f → (u e : List ℕ) → u ≡ openingByte o ∷ v → e ≡ l ∷ f → Opened o l K u e
@@ -247,28 +294,50 @@ opened-out l K (pred2 p t w) ok v f u e s m k =
     (open-pred2, opened open-pred2 l K _ _ (numbered (Arguments (suc l) K) p (ok .0) _ _ (arguments-out (suc l) K t w (ok .1) (ok .2) v f k)) u e s m)
 opened-out l K (negation a) ok v f u e s m k =
     (open-negation, opened open-negation l K (text a ++ v) (depths (suc l) a ++ f) (record { tree = a; ok = ok; v = v; f = f; spelt = refl; marked = refl; after = k }) u e s m)
-opened-out l K (binary c a b) ok v f u e s m k =
-    ( open-binary
-    , opened open-binary l K (text a ++ (joint c ∷ (text b ++ ('close' ∷ v)))) (depths (suc l) a ++ (0 ∷ (depths (suc l) b ++ (0 ∷ f))))
+opened-out l K (binary c a b) ok v f u e s m k = (
+  open-binary,
+  opened open-binary l K (text a ++ (joint c ∷ (text b ++ ('close' ∷ v)))) (depths (suc l) a ++ (0 ∷ (depths (suc l) b ++ (0 ∷ f))))
       (record {
-        tree = a; ok = ok .0; v = joint c ∷ (text b ++ ('close' ∷ v)); f = 0 ∷ (depths (suc l) b ++ (0 ∷ f)); spelt = refl; marked = refl;
+        tree = a;
+        ok = ok .0;
+        v = joint c ∷ (text b ++ ('close' ∷ v));
+        f = 0 ∷ (depths (suc l) b ++ (0 ∷ f));
+        spelt = refl;
+        marked = refl;
         after = record {
-          tree = c; ok = tt; v = text b ++ ('close' ∷ v); f = depths (suc l) b ++ (0 ∷ f); spelt = refl; marked = refl;
+          tree = c;
+          ok = tt;
+          v = text b ++ ('close' ∷ v);
+          f = depths (suc l) b ++ (0 ∷ f);
+          spelt = refl;
+          marked = refl;
           after = record {
-            tree = b; ok = ok .1; v = 'close' ∷ v; f = 0 ∷ f; spelt = refl; marked = refl;
+            tree = b;
+            ok = ok .1;
+            v = 'close' ∷ v;
+            f = 0 ∷ f;
+            spelt = refl;
+            marked = refl;
             after = record { tree = tt; ok = tt; v = v; f = f; spelt = refl; marked = refl; after = k };
           };
         };
       })
-      u e (s ∙ ap (λ (z : List ℕ). 'open' ∷ z) (regroup (text a) (text b) (joint c) 'close' v)) (m ∙ ap (λ (z : List ℕ). l ∷ z) (regroup (depths (suc l) a) (depths (suc l) b) 0 0 f)) )
-opened-out l K (quantified q x a) ok v f u e s m k =
-    ( open-quantified q
-    , opened (open-quantified q) l K ('x' ∷ digit x ∷ (text a ++ v)) (0 ∷ 0 ∷ (depths (suc l) a ++ f))
+      u e (s ∙ ap (λ (z : List ℕ). 'open' ∷ z) (regroup (text a) (text b) (joint c) 'close' v)) (m ∙ ap (λ (z : List ℕ). l ∷ z) (regroup (depths (suc l) a) (depths (suc l) b) 0 0 f)),
+)
+opened-out l K (quantified q x a) ok v f u e s m k = (
+  open-quantified q,
+  opened (open-quantified q) l K ('x' ∷ digit x ∷ (text a ++ v)) (0 ∷ 0 ∷ (depths (suc l) a ++ f))
       (record {
-        tree = tt; ok = tt; v = digit x ∷ (text a ++ v); f = 0 ∷ (depths (suc l) a ++ f); spelt = refl; marked = refl;
+        tree = tt;
+        ok = tt;
+        v = digit x ∷ (text a ++ v);
+        f = 0 ∷ (depths (suc l) a ++ f);
+        spelt = refl;
+        marked = refl;
         after = numbered (FormulaAt (suc l) K) x (ok .0) (text a ++ v) (depths (suc l) a ++ f) (record { tree = a; ok = ok .1; v = v; f = f; spelt = refl; marked = refl; after = k });
       })
-      u e s m )
+      u e s m,
+)
 
 out-of-formula : (l : ℕ) (K : Language) (u e : List ℕ) → FormulaAt l K u e → (o : Opening) × Opened o l K u e
 out-of-formula l K u e p = opened-out l K (p .tree) (p .ok) (p .v) (p .f) u e (p .spelt) (p .marked) (p .after)
@@ -296,12 +365,12 @@ opening-left o l K =
     record {
       make = λ u e k. opened-into o l K (openingByte o ∷ u) (l ∷ e) (record { tree = tt; ok = tt; v = u; f = e; spelt = refl; marked = refl; after = k });
       split = λ u e p.
-        let n = out-of-formula l K (openingByte o ∷ u) e p in
-        let q = n .1 in
-        let first : openingByte (n .0) ≡ openingByte o = cc (q .spelt) in
-        let tail : q .v ≡ u = cc (q .spelt) in
-        let moved : Rest (n .0) l K u (q .f) = subst (λ z. Rest (n .0) l K z (q .f)) tail (q .after) in
-        (q .f, q .marked, subst (λ z. Rest z l K u (q .f)) (same-opening (n .0) o first) moved);
+          let n = out-of-formula l K (openingByte o ∷ u) e p in
+          let q = n .1 in
+          let first : openingByte (n .0) ≡ openingByte o = cc (q .spelt) in
+          let tail : q .v ≡ u = cc (q .spelt) in
+          let moved : Rest (n .0) l K u (q .f) = subst (λ z. Rest (n .0) l K z (q .f)) tail (q .after) in
+          (q .f, q .marked, subst (λ z. Rest z l K u (q .f)) (same-opening (n .0) o first) moved);
     }
 
 formula-some : (l : ℕ) (K : Language) (e : List ℕ) → FormulaAt l K [] e → ⊥
@@ -403,7 +472,7 @@ module _ (most : ℕ) (bytes : List ℕ) where
       let live : Alive L = term-alive l K alive in
       let S : Out Head → Type 0 = Serves most bytes L (λ h. Digit (Behind h l K)) at n in
       let begins : (h : Head) (b : ℕ) → Here at b → b ≡ headByte h → S (part most h left at n) = λ h b here e.
-        serves-part most bytes L (λ h. Digit (Behind h l K)) h at n (headByte h) l left few (subst (λ z. Here at z) e here) pos sum (digit-alive _ (behind-alive h l K alive)) (head-left h l K) in
+      serves-part most bytes L (λ h. Digit (Behind h l K)) h at n (headByte h) l left few (subst (λ z. Here at z) e here) pos sum (digit-alive _ (behind-alive h l K alive)) (head-left h l K) in
       serves-byte most bytes L (λ h. Digit (Behind h l K)) at n (headAt most left at n) few live (term-some l K)
       (λ b here.
       cond-both (eqb b 'x') _ _ S (λ t. begins head-variable b here (eqb-true b 'x' t))
@@ -411,7 +480,7 @@ module _ (most : ℕ) (bytes : List ℕ) where
       (λ t2. cond-both (eqb b 'f') _ _ S (λ t. begins head-apply1 b here (eqb-true b 'f' t))
       (λ t3. cond-both (eqb b 'g') _ _ S (λ t. begins head-apply2 b here (eqb-true b 'g' t))
       (λ t4. refuses most bytes L at n b few live here
-        (λ u e p. let o = out-of-term l K (b ∷ u) e p in no-head b (o .0) (one-first _ (λ _. headByte (o .0)) l (Digit (Behind (o .0) l K)) b u e (o .1)) t1 t2 t3 t4))))))
+      (λ u e p. let o = out-of-term l K (b ∷ u) e p in no-head b (o .0) (one-first _ (λ _. headByte (o .0)) l (Digit (Behind (o .0) l K)) b u e (o .1)) t1 t2 t3 t4))))))
 
   -- a reader of terms at the level l, whatever is to be read behind it
   abbrev Reader : ℕ → (ℕ → ℕ → Out Term) → Type 1
@@ -480,7 +549,7 @@ module _ (most : ℕ) (bytes : List ℕ) where
       let live : Alive L = formula-alive l K alive in
       let S : Out Opening → Type 0 = Serves most bytes L (λ o. Rest o l K) at n in
       let begins : (o : Opening) (b : ℕ) → Here at b → b ≡ openingByte o → S (part most o left at n) = λ o b here e.
-        serves-part most bytes L (λ o. Rest o l K) o at n (openingByte o) l left few (subst (λ z. Here at z) e here) pos sum (rest-alive o l K alive) (opening-left o l K) in
+      serves-part most bytes L (λ o. Rest o l K) o at n (openingByte o) l left few (subst (λ z. Here at z) e here) pos sum (rest-alive o l K alive) (opening-left o l K) in
       serves-byte most bytes L (λ o. Rest o l K) at n (openingAt most left at n) few live (formula-some l K)
       (λ b here.
       cond-both (eqb b 'p') _ _ S (λ t. begins open-pred0 b here (eqb-true b 'p' t))
@@ -491,7 +560,7 @@ module _ (most : ℕ) (bytes : List ℕ) where
       (λ t5. cond-both (eqb b 'A') _ _ S (λ t. begins (open-quantified every) b here (eqb-true b 'A' t))
       (λ t6. cond-both (eqb b 'E') _ _ S (λ t. begins (open-quantified some) b here (eqb-true b 'E' t))
       (λ t7. refuses most bytes L at n b few live here
-        (λ u e p. let o = out-of-formula l K (b ∷ u) e p in no-opening b (o .0) (one-first _ (λ _. openingByte (o .0)) l (Rest (o .0) l K) b u e (o .1)) t1 t2 t3 t4 t5 t6 t7)))))))))
+      (λ u e p. let o = out-of-formula l K (b ∷ u) e p in no-opening b (o .0) (one-first _ (λ _. openingByte (o .0)) l (Rest (o .0) l K) b u e (o .1)) t1 t2 t3 t4 t5 t6 t7)))))))))
 
   opening-level : (o : Opening) (left at n i m : ℕ) → opening most left bytes at n ≡ got o i m → 0 < left
   opening-level o left at n i m e = grind (arith, tells)
@@ -527,7 +596,7 @@ module _ (most : ℕ) (bytes : List ℕ) where
   formula-by-serves l left rec pos sum ih K at n few alive =
       serves-step most bytes (FormulaAt l K) (λ o. Rest o l K) (λ _. K) at n (opening most left bytes at n) _ (opening-serves l left pos sum K at n few alive)
       (λ o i m e few1. let deep : 0 < left = opening-level o left at n i m e in
-        rest-serves l (left - 1) rec (ih deep) (term-serves (left - 1) (suc l) (omega arith) (omega arith)) o K i m few1 alive)
+      rest-serves l (left - 1) rec (ih deep) (term-serves (left - 1) (suc l) (omega arith) (omega arith)) o K i m few1 alive)
 
   pub formula-serves : (left l : ℕ) → 0 < l → l + left ≡ suc most-levels → FormulaReader l (readFormula most left bytes)
   formula-serves zero l pos sum = formula-by-serves l 0 (λ at n. bad too-deep at) pos sum (λ z. absurd (omega arith))

@@ -84,13 +84,26 @@ module _ (most : ℕ) (bytes : List ℕ) where
   stuck-after ends-early L M w d v c m r p s =
       (s .0, λ e h. let a = p .split (v ++ []) e (rw (append-assoc w v []) at h) in s .1 (a .0) (a .2))
   stuck-after after-end L M w d v c m r p s = s
-  stuck-after too-deep L M w d v c m r p s =
-      ( s .0, s .1, s .2, s .3, s .4
-      , rw (append-assoc w v (s .0 ∷ s .3), append-assoc d c (suc most-levels ∷ s .4)) (p .make (v ++ (s .0 ∷ s .3)) (c ++ (suc most-levels ∷ s .4)) (s .5)) )
-  stuck-after too-many L M w d v c m r p s =
-      ( s .0, s .1, s .2, s .3, s .4, s .5
-      , rw (append-assoc w v (s .0 ∷ s .3), append-assoc d c (s .5 ∷ s .4)) (p .make (v ++ (s .0 ∷ s .3)) (c ++ (s .5 ∷ s .4)) (s .6))
-      , s .7, s .8, s .9 )
+  stuck-after too-deep L M w d v c m r p s = (
+    s .0,
+    s .1,
+    s .2,
+    s .3,
+    s .4,
+    rw (append-assoc w v (s .0 ∷ s .3), append-assoc d c (suc most-levels ∷ s .4)) (p .make (v ++ (s .0 ∷ s .3)) (c ++ (suc most-levels ∷ s .4)) (s .5)),
+  )
+  stuck-after too-many L M w d v c m r p s = (
+    s .0,
+    s .1,
+    s .2,
+    s .3,
+    s .4,
+    s .5,
+    rw (append-assoc w v (s .0 ∷ s .3), append-assoc d c (s .5 ∷ s .4)) (p .make (v ++ (s .0 ∷ s .3)) (c ++ (s .5 ∷ s .4)) (s .6)),
+    s .7,
+    s .8,
+    s .9,
+  )
 
   stop-after : (L M : Language) (at n j p : ℕ) (k : Misreading) (i : ℕ) → Passes L at n M j p → Stops M j p k i → Stops L at n k i
   stop-after L M at n j p k i a b =
@@ -105,7 +118,7 @@ module _ (most : ℕ) (bytes : List ℕ) where
         few = b .few;
         flat = omega (arith, deepest-append (a .d) (b .d), a .flat, b .flat);
         alive = let q = b .alive in
-          (q .0, q .1, rw (append-assoc (a .w) (b .w) (q .0), append-assoc (a .d) (b .d) (q .1)) (a .along .make (b .w ++ q .0) (b .d ++ q .1) (q .2)));
+            (q .0, q .1, rw (append-assoc (a .w) (b .w) (q .0), append-assoc (a .d) (b .d) (q .1)) (a .along .make (b .w ++ q .0) (b .d ++ q .1) (q .2)));
         stuck = stuck-after k L M (a .w) (a .d) (b .w) (b .d) (b .m) (drop i bytes) (a .along) (b .stuck);
       }
 
@@ -132,15 +145,35 @@ module _ (most : ℕ) (bytes : List ℕ) where
       cond-both (ltb at (length bytes)) (f (getD bytes at 0)) (bad ends-early at) (Serves L K at n)
       (λ t. h (getD bytes at 0) (drop-more bytes at 0 (ltb-true at (length bytes) t)))
       (λ t. record {
-        w = []; d = []; m = n; spelt = refl; place = omega arith; marked = refl; count = omega arith; few = few; flat = omega arith;
-        alive = alive; stuck = (drop-all at bytes (ltb-false at (length bytes) t), some) })
+        w = [];
+        d = [];
+        m = n;
+        spelt = refl;
+        place = omega arith;
+        marked = refl;
+        count = omega arith;
+        few = few;
+        flat = omega arith;
+        alive = alive;
+        stuck = (drop-all at bytes (ltb-false at (length bytes) t), some);
+      })
 
   -- the byte is not allowed
   pub refuses : (L : Language) (at n b : ℕ) → n ≤ most → Alive L → drop at bytes ≡ b ∷ drop (at + 1) bytes → ((u e : List ℕ) → L (b ∷ u) e → ⊥) → Stops L at n not-allowed at
   refuses L at n b few alive e h =
       record {
-        w = []; d = []; m = n; spelt = refl; place = omega arith; marked = refl; count = omega arith; few = few; flat = omega arith;
-        alive = alive; stuck = (b, drop (at + 1) bytes, e, h) }
+        w = [];
+        d = [];
+        m = n;
+        spelt = refl;
+        place = omega arith;
+        marked = refl;
+        count = omega arith;
+        few = few;
+        flat = omega arith;
+        alive = alive;
+        stuck = (b, drop (at + 1) bytes, e, h);
+      }
 
   -- the byte is taken, and no part begins at it
   pub takes : (L K : Language) (at n b : ℕ) → n ≤ most → drop at bytes ≡ b ∷ drop (at + 1) bytes → Left L (b ∷ []) (0 ∷ []) K → Passes L at n K (at + 1) n
@@ -159,16 +192,44 @@ module _ (most : ℕ) (bytes : List ℕ) where
       let made : L (b ∷ u) (l ∷ f) = along .make u f (alive .2) in
       cond-both (eqb left 0) (bad too-deep at) (cond (ltb n most) (got x (at + 1) (n + 1)) (bad too-many at)) (Serves L K at n)
       (λ t.
-        let deep : l ≡ suc most-levels = omega (arith, eqb-true left 0 t) in
-        record {
-          w = []; d = []; m = n; spelt = refl; place = omega arith; marked = refl; count = omega arith; few = few; flat = omega arith;
-          alive = (b ∷ u, l ∷ f, made); stuck = (b, drop (at + 1) bytes, e, u, f, subst (λ z. L (b ∷ u) (z ∷ f)) deep made) })
+      let deep : l ≡ suc most-levels = omega (arith, eqb-true left 0 t) in
+      record {
+        w = [];
+        d = [];
+        m = n;
+        spelt = refl;
+        place = omega arith;
+        marked = refl;
+        count = omega arith;
+        few = few;
+        flat = omega arith;
+        alive = (b ∷ u, l ∷ f, made);
+        stuck = (b, drop (at + 1) bytes, e, u, f, subst (λ z. L (b ∷ u) (z ∷ f)) deep made);
+      })
       (λ t.
-        let low : l ≤ most-levels = omega (arith, eqb-false left 0 t) in
-        cond-both (ltb n most) (got x (at + 1) (n + 1)) (bad too-many at) (Serves L K at n)
-        (λ s. record {
-          w = b ∷ []; d = l ∷ []; spelt = e; place = refl; marked = refl; count = omega (arith, begun-one l pos); few = omega (arith, ltb-true n most s);
-          flat = omega arith; along = along })
-        (λ s. record {
-          w = []; d = []; m = n; spelt = refl; place = omega arith; marked = refl; count = omega arith; few = few; flat = omega arith;
-          alive = (b ∷ u, l ∷ f, made); stuck = (b, drop (at + 1) bytes, e, u, f, l, made, pos, low, omega (arith, ltb-false n most s)) }))
+      let low : l ≤ most-levels = omega (arith, eqb-false left 0 t) in
+      cond-both (ltb n most) (got x (at + 1) (n + 1)) (bad too-many at) (Serves L K at n)
+      (λ s. record {
+        w = b ∷ [];
+        d = l ∷ [];
+        spelt = e;
+        place = refl;
+        marked = refl;
+        count = omega (arith, begun-one l pos);
+        few = omega (arith, ltb-true n most s);
+        flat = omega arith;
+        along = along;
+      })
+      (λ s. record {
+        w = [];
+        d = [];
+        m = n;
+        spelt = refl;
+        place = omega arith;
+        marked = refl;
+        count = omega arith;
+        few = few;
+        flat = omega arith;
+        alive = (b ∷ u, l ∷ f, made);
+        stuck = (b, drop (at + 1) bytes, e, u, f, l, made, pos, low, omega (arith, ltb-false n most s));
+      }))

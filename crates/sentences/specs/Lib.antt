@@ -1,3 +1,4 @@
+pub mod Counted
 pub mod Held
 pub mod Judged
 pub mod Windows

@@ -16,17 +16,17 @@ const CUT: &str = "...";
 pub impl fmt::Display for Excerpt<'_> as ExcerptDisplay {
     fn fmt<W: fmt::Write>(&self, f: &mut fmt::Formatter<W>) -> fmt::Result {
         let len = self.sentence.len();
-        let window = Window::around(self.place, len);
+        let Window { start, end } = Window::around(self.place, len);
         f.write_str("  ")?;
-        let mut column = self.place.saturating_sub(window.start);
-        if window.start > 0 {
+        let mut column = self.place.saturating_sub(start);
+        if start > 0 {
             f.write_str(CUT)?;
             column = column.saturating_add(CUT.len());
         }
-        for byte in &self.sentence[window.start..window.end] {
+        for byte in &self.sentence[start..end] {
             f.write_char(shown(*byte))?;
         }
-        if window.end < len {
+        if end < len {
             f.write_str(CUT)?;
         }
         f.write_str("\n  ")?;

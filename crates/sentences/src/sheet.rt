@@ -3,6 +3,8 @@ ghost use mathlib.Core.Path.{_≡_};
 ghost use mathlib.Core.List.{[], _∷_, _++_};
 ghost use Rattle.std.specs.Of.Vec.{vec-items};
 ghost use Rattle.sentences.specs.Held.{Holds};
+ghost use Rattle.sentences.specs.Counted.{Counts};
+use crate::judgement::Judgement;
 use std::alloc::AllocError;
 use std::alloc::Global;
 
@@ -39,5 +41,23 @@ impl Sheet {
             self.sentence.push(byte)?;
         }
         Ok(())
+    }
+
+    /// Counts a judgement of the sentence.
+    pub fn count(&mut self, judgement: Judgement)
+        ensures { λ _. ⌜ Counts (now (self .entry)) judgement (now (self .exit)) ⌝ }
+    {
+        self.sentences = self.sentences.saturating_add(1);
+        match judgement {
+            Judgement::Formula(_, _, _) => self.formulas = self.formulas.saturating_add(1),
+            Judgement::Refused(_) => self.refused = self.refused.saturating_add(1),
+        }
+    }
+
+    /// Begins the next sentence.
+    pub fn next(&mut self)
+        ensures { λ _. ⌜ vec-items (now (self .exit) .sentence) ≡ [] ⌝ }
+    {
+        self.sentence.clear();
     }
 }

@@ -1,7 +1,7 @@
 use Prim.Native.Nat.{_<_}
 use lib.ListN.{length}
 use native.Mathlib.Omega.{arith}
-use Rattle.formula.proofs.Table.{holds}
+use Rattle.formula.proofs.Entries.{holds}
 use Rattle.formula.proofs.class.Class.in_table.Needs as need
 
 pub returns : need.returns
