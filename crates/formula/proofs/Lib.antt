@@ -1,2 +1,6 @@
 pub mod Marks
 pub mod Table
+pub mod Fronts
+pub mod Bracketed
+pub mod Widths
+pub mod Printed

@@ -6,10 +6,12 @@
 //   class    the class of each byte value
 //   fault    what a call can refuse, and for what
 //   reader   trees from bytes
+//   printer  bytes from trees
 mod class;
 mod fault;
 mod measures;
 mod name;
+mod printer;
 mod reader;
 mod tree;
 mod variables;
