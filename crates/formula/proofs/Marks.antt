@@ -14,9 +14,8 @@ abbrev pub Marked : (ℕ → Bool) → List Bool → ℕ → Type 0
 Marked f holds n = (length holds ≡ 8) × ((v : ℕ) → v < n → getD holds v false ≡ f v)
 
 pub marked-more : (f : ℕ → Bool) (holds : List Bool) (n : ℕ) (b : Bool) → Marked f holds n → n < 8 → b ≡ f n → Marked f (set holds n b) (n + 1)
-marked-more f holds n b h l e = (
-  simp length-set (h .0),
-  below-more (λ v. getD (set holds n b) v false ≡ f v) n
+marked-more f holds n b h l e =
+    ( simp length-set (h .0)
+    , below-more (λ v. getD (set holds n b) v false ≡ f v) n
       (λ v k. let ne : v ≢ n = omega arith in rw getD-set-other (h .1 v k))
-      (let lt : n < length holds = omega (arith, h .0) in rw getD-set-same e),
-)
+      (let lt : n < length holds = omega (arith, h .0) in rw getD-set-same e) )
