@@ -4,3 +4,4 @@ pub mod Fronts
 pub mod Bracketed
 pub mod Widths
 pub mod Printed
+pub mod Shown

@@ -6,8 +6,10 @@
 //   class    the class of each byte value
 //   fault    what a call can refuse, and for what
 //   reader   trees from bytes
-//   printer  bytes from trees
+//   printer  trees as bytes in a buffer
+//   display  trees as text that is formatted
 mod class;
+mod display;
 mod fault;
 mod measures;
 mod name;
