@@ -2,3 +2,8 @@ pub mod Marks
 pub mod Entries
 pub mod Told
 pub mod Whole
+pub mod Fronts
+pub mod Bracketed
+pub mod Widths
+pub mod Printed
+pub mod Shown

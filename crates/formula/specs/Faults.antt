@@ -1,5 +1,7 @@
--- The number, the layer, the text and the place of each fault. Assumes nothing.
+-- The number, the layer, the text and the place of each fault, and the word for each text. Assumes nothing.
 use Prim.Native.Nat.{ℕ}
+use mathlib.Core.List.{List}
+use lib.Chars.{codes}
 use Rattle.std.specs.declared.option.Option.{Option}
 use Rattle.std.specs.declared.option.Option.the-variants.{Some, None}
 use Rattle.formula.specs.declared.fault.Source.{Source}
@@ -42,3 +44,7 @@ placeOf (TooDeep s i) = i
 placeOf (TooMany s i) = i
 placeOf BufferShort = 0
 placeOf Memory = 0
+
+abbrev pub wordOf : Source → List ℕ
+wordOf Source.Formula = codes "formula"
+wordOf Source.Term = codes "term"

@@ -1,6 +1,7 @@
 // What a call can refuse, and for what.
 ghost use mathlib.Core.Path.{_≡_};
-ghost use Rattle.formula.specs.Faults.{numberOf, layerOf, placeOf, sourceOf};
+ghost use Rattle.formula.specs.Faults.{numberOf, layerOf, placeOf, sourceOf, wordOf};
+ghost use Rattle.std.specs.declared.option.Option.the-variants.{Some};
 ghost use Rattle.formula.specs.declared.fault.Fault.the-variants.{Memory};
 use std::alloc::AllocError;
 use std::alloc::Refused;
@@ -89,6 +90,17 @@ impl Fault {
             | Fault::TooDeep(source, _)
             | Fault::TooMany(source, _) => Some(*source),
             Fault::BufferShort | Fault::Memory => None,
+        }
+    }
+}
+
+pub impl fmt::Display for Source as SourceDisplay {
+    ghost shown = { λ s. Some (wordOf s) };
+
+    fn fmt<W: fmt::Write>(&self, f: &mut fmt::Formatter<W>) -> fmt::Result {
+        match self {
+            Source::Formula => f.pad("formula"),
+            Source::Term => f.pad("term"),
         }
     }
 }
