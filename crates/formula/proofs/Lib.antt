@@ -7,3 +7,4 @@ pub mod Bracketed
 pub mod Widths
 pub mod Printed
 pub mod Shown
+pub mod Back

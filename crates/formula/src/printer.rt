@@ -2,13 +2,14 @@
 ghost use mathlib.Core.Path.{_≡_};
 ghost use mathlib.Core.List.{[], _∷_};
 ghost use Prim.Native.Nat.{_+_, _-_, _^_, _≤_, min};
-ghost use lib.ListN.{length};
+ghost use lib.ListN.{length, take};
 ghost use Rattle.std.specs.Numbers.{Checked};
+ghost use Rattle.std.specs.Vec.{made};
 ghost use Rattle.logic.specs.Signs.{digit as digitOf, joint, letter as letterOf};
 ghost use Rattle.logic.specs.Text.{termText, text, enclosed, paired};
 ghost use Rattle.formula.specs.View.{connective, quantifier, term, formula};
 ghost use Rattle.formula.specs.Widths.{termWidth, width, Wrote};
-ghost use Rattle.formula.specs.Printed.{Printed};
+ghost use Rattle.formula.specs.Printed.{Printed, FormulaBack, TermBack};
 use crate::fault::Fault;
 use crate::name::Name;
 use crate::tree::Connective;
@@ -66,7 +67,8 @@ impl Term {
 
     /// Puts the term's text at the front of `out` and answers how many bytes it has. Where `out` is too short, nothing is written.
     pub fn print(&self, out: &mut [u8]) -> Result<usize, Fault>
-        ensures { λ r. ⌜ Printed (termText (term (now (self .entry)))) (now (out .entry)) (now (out .exit)) r ⌝ }
+        ensures printed { λ r. ⌜ Printed (termText (term (now (self .entry)))) (now (out .entry)) (now (out .exit)) r ⌝ }
+        ensures back { λ r. ⌜ made r (λ n. TermBack (term (now (self .entry))) (take n (now (out .exit)))) ⌝ }
     {
         match self.spare(out.len()) {
             Some(_) => Ok(self.write(out)),
@@ -142,7 +144,8 @@ impl Formula {
 
     /// Puts the formula's text at the front of `out` and answers how many bytes it has. Where `out` is too short, nothing is written.
     pub fn print(&self, out: &mut [u8]) -> Result<usize, Fault>
-        ensures { λ r. ⌜ Printed (text (formula (now (self .entry)))) (now (out .entry)) (now (out .exit)) r ⌝ }
+        ensures printed { λ r. ⌜ Printed (text (formula (now (self .entry)))) (now (out .entry)) (now (out .exit)) r ⌝ }
+        ensures back { λ r. ⌜ made r (λ n. FormulaBack (formula (now (self .entry))) (take n (now (out .exit)))) ⌝ }
     {
         match self.spare(out.len()) {
             Some(_) => Ok(self.write(out)),
