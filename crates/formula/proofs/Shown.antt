@@ -13,7 +13,7 @@ use Rattle.std.proofs.Writes.{prints-then, put-is}
 module _ {W : Type 0} {took : W → List ℕ → W → Type 0} where
   -- b comes after a, which went well, and s is the last result
   pub next : {f g h : Formatter W} {r : Result (Unit {0}) Error} {a b : List ℕ} {v : Unit {0}} (s : Result (Unit {0}) Error)
-    → r ≡ Ok v → Prints took f r a g → Prints took g s b h → Prints took f s (a ++ b) h
+      → r ≡ Ok v → Prints took f r a g → Prints took g s b h → Prints took f s (a ++ b) h
   next {f} {g} {h} {r} {a} {b} {v} s was p q = prints-then took f g h r s a b (λ _. ap isOk was) p q
 
   -- the same text, said otherwise

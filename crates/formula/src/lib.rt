@@ -52,3 +52,6 @@ pub use tree::Quantifier;
 pub use tree::Term;
 pub use variables::Variables;
 pub use variables::VariablesDisplay;
+
+#[cfg(test)]
+mod tests;

@@ -28,10 +28,10 @@ returns-in-Continue-show-4 g t c =
     let f = ap text e in
     let k = c .sign .ensures in
     shows r (cc)
-      (next r (c .in-Continue-show-byte-2 .was tt) (c .show-byte-in-Binary .ensures)
-        (next r (c .in-Continue-show-3 .was tt) (c .show-in-Binary .ensures)
-          (next r (c .in-Continue-show-byte-3 .was tt) (c .show-byte-in-Binary-2 .ensures)
-            (next r (c .in-Continue-show-4 .was tt) (c .show-in-Binary-2 .ensures) (c .show-byte-in-Binary-3 .ensures)))))
+    (next r (c .in-Continue-show-byte-2 .was tt) (c .show-byte-in-Binary .ensures)
+    (next r (c .in-Continue-show-3 .was tt) (c .show-in-Binary .ensures)
+    (next r (c .in-Continue-show-byte-3 .was tt) (c .show-byte-in-Binary-2 .ensures)
+    (next r (c .in-Continue-show-4 .was tt) (c .show-in-Binary-2 .ensures) (c .show-byte-in-Binary-3 .ensures)))))
 
 pub returns-in-Continue-show-5 : need.returns-in-Continue-show-5
 returns-in-Continue-show-5 g t c =
@@ -40,5 +40,5 @@ returns-in-Continue-show-5 g t c =
     let f = ap text e in
     let k = c .letter .ensures in
     shows r (cc)
-      (next r (c .in-Continue-show-byte-4 .was tt) (c .show-byte-in-Quantified .ensures)
-        (next r (c .in-Continue-show-5 .was tt) (c .show-in-Quantified .ensures) (c .show-in-Quantified-2 .ensures)))
+    (next r (c .in-Continue-show-byte-4 .was tt) (c .show-byte-in-Quantified .ensures)
+    (next r (c .in-Continue-show-5 .was tt) (c .show-in-Quantified .ensures) (c .show-in-Quantified-2 .ensures)))

@@ -21,12 +21,12 @@ pub show-one-returns : need.show-one-returns
 show-one-returns g t c =
     let r = c .show-byte-2 .result in
     next r (c .in-Continue-show-byte .was tt) (c .show-byte .ensures)
-      (next r (c .in-Continue-show .was tt) (c .show .ensures) (c .show-byte-2 .ensures))
+    (next r (c .in-Continue-show .was tt) (c .show .ensures) (c .show-byte-2 .ensures))
 
 pub show-two-returns : need.show-two-returns
 show-two-returns g t c =
     let r = c .show-byte-3 .result in
     next r (c .in-Continue-show-byte .was tt) (c .show-byte .ensures)
-      (next r (c .in-Continue-show .was tt) (c .show .ensures)
-        (next r (c .in-Continue-show-byte-2 .was tt) (c .show-byte-2 .ensures)
-          (next r (c .in-Continue-show-2 .was tt) (c .show-2 .ensures) (c .show-byte-3 .ensures))))
+    (next r (c .in-Continue-show .was tt) (c .show .ensures)
+    (next r (c .in-Continue-show-byte-2 .was tt) (c .show-byte-2 .ensures)
+    (next r (c .in-Continue-show-2 .was tt) (c .show-2 .ensures) (c .show-byte-3 .ensures))))
