@@ -1,10 +1,2 @@
 pub mod Marks
 pub mod Entries
-pub mod Told
-pub mod Whole
-pub mod Fronts
-pub mod Bracketed
-pub mod Widths
-pub mod Printed
-pub mod Shown
-pub mod Back

@@ -6,7 +6,7 @@ ghost use Rattle.formula.specs.Table.{class, follows};
 use crate::table::CLASSES;
 
 /// What a byte can be in a text: a digit, a bracket, a comma, else the sign that it is or begins, or none.
-#[derive(Clone, Copy, Debug)]
+#[derive(Clone, Copy)]
 pub enum Class {
     None,
     Digit,

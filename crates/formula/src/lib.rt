@@ -1,30 +1,21 @@
-// Terms and formulas: read from bytes, printed back, measured.
+// Terms and formulas as trees, what is measured of them, the classes of bytes, and the faults.
 //
-//   name     the digit of a name
-//   tree     terms and formulas as trees
-//   variables sets of variables
-//   measures parts, levels and free variables of a tree
-//   class    the classes of bytes
-//   table    the class of each byte value
-//   fault    what a call can refuse, and for what
-//   reader   trees from bytes
-//   printer  trees as bytes in a buffer
-//   display  trees as text that is formatted
+//   name       the digit of a name
+//   tree       terms and formulas
+//   variables  sets of variables
+//   measures   parts, levels and free variables of a tree
+//   class      the classes of bytes
+//   table      the class of each byte value
+//   fault      what a call can refuse, and for what
 mod class;
-mod display;
 mod fault;
 mod measures;
 mod name;
-mod printer;
-mod reader;
 mod table;
 mod tree;
 mod variables;
 
 pub use class::Class;
-pub use class::ClassDebug;
-pub use display::FormulaDisplay;
-pub use display::TermDisplay;
 pub use fault::Fault;
 pub use fault::FaultDebug;
 pub use fault::FaultDisplay;
@@ -44,14 +35,9 @@ pub use fault::SourceEq;
 pub use fault::SourcePartialEq;
 pub use name::NAMES;
 pub use name::Name;
-pub use reader::MOST_LEVELS;
-pub use reader::MOST_PARTS;
 pub use tree::Connective;
 pub use tree::Formula;
 pub use tree::Quantifier;
 pub use tree::Term;
 pub use variables::Variables;
 pub use variables::VariablesDisplay;
-
-#[cfg(test)]
-mod tests;

@@ -8,7 +8,7 @@ use Rattle.logic.specs.Syntax as pure
 use Rattle.logic.specs.Syntax.{free}
 use Rattle.logic.specs.Text.{names, parts, levels, Reads}
 use Rattle.logic.specs.Misreadings.{formulas}
-use Rattle.formula.specs.Told.{Meant}
+use Rattle.reader.specs.Told.{Meant}
 use Rattle.formula.specs.declared.fault.Fault.{Fault}
 use Rattle.formula.specs.declared.variables.Variables.{Variables}
 use Rattle.sentences.specs.declared.judgement.Judgement.{Judgement}

@@ -4,8 +4,8 @@ ghost use Rattle.std.specs.Results.{Cases};
 ghost use Rattle.formula.specs.declared.fault.Fault.the-variants.{Memory};
 ghost use Rattle.sentences.specs.Judged.{Judged};
 use formula::Fault;
-use formula::Formula;
 use formula::Variables;
+use reader::read_formula;
 use std::alloc::Global;
 
 /// A formula's measures, or why the sentence is none.
@@ -20,7 +20,7 @@ impl Judgement {
     pub fn of(heap: Global, sentence: &[u8]) -> Result<Judgement, Fault>
         ensures { λ r. ⌜ Cases r (Judged (now (sentence .entry))) (λ e. e ≡ Memory) ⌝ }
     {
-        match Formula::read(heap, sentence) {
+        match read_formula(heap, sentence) {
             Ok(formula) => Ok(Judgement::Formula(
                 formula.parts(),
                 formula.levels(),
