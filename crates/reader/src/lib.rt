@@ -14,13 +14,13 @@ ghost use Rattle.reader.specs.Steps.{Step};
 ghost use Rattle.reader.specs.Told.{FormulaRead, TermRead};
 ghost use Rattle.formula.specs.declared.fault.Fault.the-variants.{EndsEarly, AfterEnd};
 use formula::Class;
+use formula::Connective;
 use formula::Fault;
 use formula::FaultFromRefused;
-use formula::Source;
-use formula::Name;
-use formula::Connective;
 use formula::Formula;
+use formula::Name;
 use formula::Quantifier;
+use formula::Source;
 use formula::Term;
 use std::alloc::Global;
 

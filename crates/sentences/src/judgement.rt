@@ -26,8 +26,10 @@ impl Judgement {
                 formula.levels(),
                 formula.free_variables(),
             )),
-            Err(Fault::Memory) => Err(Fault::Memory),
-            Err(fault) => Ok(Judgement::Refused(fault)),
+            Err(fault) => match fault {
+                Fault::Memory => Err(fault),
+                _ => Ok(Judgement::Refused(fault)),
+            },
         }
     }
 }

@@ -1,0 +1,3 @@
+// Examples on both sides of every limit.
+#[cfg(test)]
+mod tests;

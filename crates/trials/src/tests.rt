@@ -1,0 +1,82 @@
+// Each text with what reading it answers.
+use formula::Fault;
+use formula::FaultDebug;
+use formula::FaultPartialEq;
+use formula::Source;
+use reader::read_formula;
+use reader::read_term;
+use std::test::*;
+
+// 200 and 201 parts.
+const FULL: &str =
+    "-((((((p0&(p0&p0))&(p0&(p0&p0)))&((p0&(p0&p0))&(p0&(p0&p0))))&(((p0&(p0&p0))&(p0&(p0&p0)))&((p0&\
+(p0&p0))&((p0&p0)&(p0&p0)))))&((((p0&(p0&p0))&(p0&(p0&p0)))&((p0&(p0&p0))&(p0&(p0&p0))))&(((p0&(\
+p0&p0))&(p0&(p0&p0)))&((p0&(p0&p0))&((p0&p0)&(p0&p0))))))&(((((p0&(p0&p0))&(p0&(p0&p0)))&((p0&(p\
+0&p0))&(p0&(p0&p0))))&(((p0&(p0&p0))&(p0&(p0&p0)))&((p0&(p0&p0))&((p0&p0)&(p0&p0)))))&((((p0&(p0\
+&p0))&(p0&(p0&p0)))&((p0&(p0&p0))&(p0&(p0&p0))))&(((p0&(p0&p0))&(p0&(p0&p0)))&((p0&(p0&p0))&((p0\
+&p0)&(p0&p0)))))))";
+
+const OVERFULL: &str =
+    "((((((p0&(p0&p0))&(p0&(p0&p0)))&((p0&(p0&p0))&(p0&(p0&p0))))&(((p0&(p0&p0))&(p0&(p0&p0)))&((p0&(\
+p0&p0))&((p0&p0)&(p0&p0)))))&((((p0&(p0&p0))&(p0&(p0&p0)))&((p0&(p0&p0))&(p0&(p0&p0))))&(((p0&(p\
+0&p0))&(p0&(p0&p0)))&((p0&(p0&p0))&((p0&p0)&(p0&p0))))))&(((((p0&(p0&p0))&(p0&(p0&p0)))&((p0&(p0\
+&p0))&(p0&(p0&p0))))&(((p0&(p0&p0))&(p0&(p0&p0)))&((p0&(p0&p0))&((p0&p0)&(p0&p0)))))&((((p0&(p0&\
+p0))&(p0&(p0&p0)))&((p0&(p0&p0))&((p0&p0)&(p0&p0))))&(((p0&(p0&p0))&(p0&(p0&p0)))&((p0&(p0&p0))&\
+((p0&p0)&(p0&p0)))))))";
+
+#[test]
+fn refused(rt: LibcRuntime) -> Result<(), Fail> {
+    let formula = Source::Formula;
+    let cases = [
+        ("", Fault::EndsEarly(formula, 0)),
+        ("q0(x8)", Fault::NotAllowed(formula, 4)),
+        ("q0(c0)p", Fault::AfterEnd(formula, 6)),
+        ("(p0&p1", Fault::EndsEarly(formula, 6)),
+        ("x0", Fault::NotAllowed(formula, 0)),
+        ("------------------------p0", Fault::TooDeep(formula, 24)),
+        (
+            "q0(f0(f0(f0(f0(f0(f0(f0(f0(f0(f0(f0(f0(f0(f0(f0(f0(f0(f0(f0(f0(f0(f0(f0(x0))))))))))))))))))))))))",
+            Fault::TooDeep(formula, 72),
+        ),
+        (OVERFULL, Fault::TooMany(formula, 493)),
+    ];
+    for (text, fault) in cases {
+        check_eq(read_formula(rt.alloc(), text.as_bytes()).err(), Some(fault))?;
+    }
+    Ok(())
+}
+
+#[test]
+fn read(rt: LibcRuntime) -> Result<(), Fail> {
+    let cases = [
+        ("p0", 1, 1),
+        ("q0(x7)", 2, 2),
+        ("-----------------------p0", 24, 24),
+        (
+            "q0(f0(f0(f0(f0(f0(f0(f0(f0(f0(f0(f0(f0(f0(f0(f0(f0(f0(f0(f0(f0(f0(f0(x0)))))))))))))))))))))))",
+            24,
+            24,
+        ),
+        (FULL, 200, 9),
+        ("(Ax0r0(x0,x1)&q0(x2))", 7, 4),
+    ];
+    for (text, parts, levels) in cases {
+        let formula = read_formula(rt.alloc(), text.as_bytes())?;
+        check_eq(formula.parts(), parts)?;
+        check_eq(formula.levels(), levels)?;
+    }
+    Ok(())
+}
+
+#[test]
+fn terms(rt: LibcRuntime) -> Result<(), Fail> {
+    let fault = read_term(rt.alloc(), b"f0(p0)").err();
+    check_eq(fault, Some(Fault::NotAllowed(Source::Term, 3)))
+}
+
+#[test]
+fn free(rt: LibcRuntime) -> Result<(), Fail> {
+    let formula = read_formula(rt.alloc(), b"(Ax0r0(x0,x1)&q0(x2))")?;
+    let free = formula.free_variables();
+    check(!free.holds[0] && free.holds[1] && free.holds[2] && !free.holds[3])
+}
