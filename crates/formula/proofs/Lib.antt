@@ -1,2 +1,3 @@
 pub mod Marks
 pub mod Entries
+pub mod Shown

@@ -1,21 +1,27 @@
-// Terms and formulas as trees, what is measured of them, the classes of bytes, and the faults.
+// Terms and formulas as trees, what is measured of them, how they are shown, the classes of bytes, and the faults.
 //
 //   name       the digit of a name
 //   tree       terms and formulas
 //   variables  sets of variables
 //   measures   parts, levels and free variables of a tree
+//   signs      the bytes of connectives and quantifiers
+//   display    trees as text that is formatted
 //   class      the classes of bytes
 //   table      the class of each byte value
 //   fault      what a call can refuse, and for what
 mod class;
+mod display;
 mod fault;
 mod measures;
 mod name;
+mod signs;
 mod table;
 mod tree;
 mod variables;
 
 pub use class::Class;
+pub use display::FormulaDisplay;
+pub use display::TermDisplay;
 pub use fault::Fault;
 pub use fault::FaultDebug;
 pub use fault::FaultDisplay;

@@ -51,11 +51,11 @@ impl Term {
     pub fn variables(&self) -> Variables
         ensures { λ r. ⌜ ((v : ℕ) → v < 8 → getD (r .holds) v false ≡ occurs v (term (now (self .entry)))) ⌝ }
     {
-        let mut holds = [false; NAMES];
+        let mut found = [false; NAMES];
         for digit in 0..NAMES {
-            holds[digit] = self.has(Name { digit: digit as u8 });
+            found[digit] = self.has(Name { digit: digit as u8 });
         }
-        Variables { holds }
+        Variables { holds: found }
     }
 }
 
@@ -104,10 +104,10 @@ impl Formula {
     pub fn free_variables(&self) -> Variables
         ensures { λ r. ⌜ ((v : ℕ) → v < 8 → getD (r .holds) v false ≡ free v (formula (now (self .entry)))) ⌝ }
     {
-        let mut holds = [false; NAMES];
+        let mut unbound = [false; NAMES];
         for digit in 0..NAMES {
-            holds[digit] = self.is_free(Name { digit: digit as u8 });
+            unbound[digit] = self.is_free(Name { digit: digit as u8 });
         }
-        Variables { holds }
+        Variables { holds: unbound }
     }
 }

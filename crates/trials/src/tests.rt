@@ -3,6 +3,8 @@ use formula::Fault;
 use formula::FaultDebug;
 use formula::FaultPartialEq;
 use formula::Source;
+use printer::formula_len;
+use printer::print_formula;
 use reader::read_formula;
 use reader::read_term;
 use std::test::*;
@@ -79,4 +81,18 @@ fn free(rt: LibcRuntime) -> Result<(), Fail> {
     let formula = read_formula(rt.alloc(), b"(Ax0r0(x0,x1)&q0(x2))")?;
     let free = formula.free_variables();
     check(!free.holds[0] && free.holds[1] && free.holds[2] && !free.holds[3])
+}
+
+#[test]
+fn printed(rt: LibcRuntime) -> Result<(), Fail> {
+    let text = "Ax0(r0(x0,g1(c2,x3))>Ex3-q4(f5(x3)))";
+    let formula = read_formula(rt.alloc(), text.as_bytes())?;
+    check_eq(formula_len(&formula), 36)?;
+    let mut short = [7u8; 35];
+    check_eq(print_formula(&formula, &mut short), Err(Fault::BufferShort))?;
+    check(short == [7u8; 35])?;
+    let mut out = [7u8; 38];
+    check_eq(print_formula(&formula, &mut out), Ok(36))?;
+    check(&out[0..36] == text.as_bytes())?;
+    check(out[36] == 7 && out[37] == 7)
 }

@@ -4,4 +4,4 @@ use Rattle.formula.proofs.Marks.{Marked}
 use Rattle.formula.proofs.tree.Formula.free_variables.Given as given
 
 abbrev pub Inv-loop-digit : given.InvT-loop-digit
-Inv-loop-digit l = Marked (λ v. free v (formula (l .self))) (l .holds) (l .digit)
+Inv-loop-digit l = Marked (λ v. free v (formula (l .self))) (l .unbound) (l .digit)
