@@ -4,7 +4,7 @@ ghost use Prim.Native.Nat.{ℕ, _-_, _<_, _^_, min};
 ghost use mathlib.Core.Bool.{false};
 ghost use lib.ListN.{getD};
 ghost use Rattle.logic.specs.Syntax.{occurs, free};
-ghost use Rattle.logic.specs.Text.{termParts, parts as partsOf, termLevels, levels as levelsOf};
+ghost use Rattle.logic.specs.Text.{names, termParts, parts as partsOf, termLevels, levels as levelsOf};
 ghost use Rattle.formula.specs.View.{term, formula};
 use crate::name::NAMES;
 use crate::name::Name;
@@ -49,7 +49,7 @@ impl Term {
 
     /// The variables that stand in the term.
     pub fn variables(&self) -> Variables
-        ensures { λ r. ⌜ ((v : ℕ) → v < 8 → getD (r .holds) v false ≡ occurs v (term (now (self .entry)))) ⌝ }
+        ensures { λ r. ⌜ ((v : ℕ) → v < names → getD (r .holds) v false ≡ occurs v (term (now (self .entry)))) ⌝ }
     {
         let mut found = [false; NAMES];
         for digit in 0..NAMES {
@@ -102,7 +102,7 @@ impl Formula {
 
     /// The variables that stand free in the formula.
     pub fn free_variables(&self) -> Variables
-        ensures { λ r. ⌜ ((v : ℕ) → v < 8 → getD (r .holds) v false ≡ free v (formula (now (self .entry)))) ⌝ }
+        ensures { λ r. ⌜ ((v : ℕ) → v < names → getD (r .holds) v false ≡ free v (formula (now (self .entry)))) ⌝ }
     {
         let mut unbound = [false; NAMES];
         for digit in 0..NAMES {

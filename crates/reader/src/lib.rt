@@ -5,7 +5,6 @@ ghost use lib.ListN.{length, getD};
 ghost use Rattle.std.specs.Results.{Cases};
 ghost use Rattle.std.specs.Vec.{made};
 ghost use Rattle.logic.specs.Reading as reading;
-ghost use Rattle.logic.specs.Class as classes;
 ghost use Rattle.formula.specs.View.{connective, quantifier, term, pair, formula};
 ghost use Rattle.formula.specs.Table.{class};
 ghost use Rattle.reader.specs.Heads.{digitOf, headOf, openingOf};
