@@ -1,6 +1,6 @@
 -- A text within the limits is short, and what is wrong with the first bytes of a longer one is wrong with it. Assumes nothing.
 use Prim.Native.Nat.{ℕ, zero, suc, _+_, _*_, _<_, _≤_}
-use mathlib.Core.Path.{_≡_, ap, subst}
+use mathlib.Core.Path.{_≡_, ap, subst, _∙_, sym}
 use mathlib.Core.List.{List, [], _∷_, _++_, append-assoc, append-nil}
 use native.Mathlib.Omega.{arith}
 use lib.ListN.{length, take, length-append}
@@ -106,14 +106,15 @@ module _ {A : Type 0} (G : Grammar A) (thrifty : Thrifty G) where
           within = within i (m .within);
           tree = m .tree;
           before = rw (before i (m .within)) at (m .before);
-          fits = m .fits;
+          fits = rw (before i (m .within)) at (m .fits);
+          not-whole = λ a ok e. m .not-whole a ok (e ∙ sym (before i (m .within)));
           cannot = λ a g. m .cannot a (rw (with-it i (m .within)) g);
         }
     carried ends-early i m =
         let t = m .tree in
         let g = m .before in
         let all : i ≤ length (G .begins t) = omega (arith, m .at-end, thrifty .marked t, ap length (g .goes), length-append (take n bytes) (g .rest)) in
-        absurd (omega (arith, size, m .at-end, short-piece (G .begins t) (thrifty .pays t) i all (m .fits .few)))
+        absurd (omega (arith, size, m .at-end, short-piece (G .begins t) (thrifty .pays t) (length (take n bytes)) (omega (arith, all, m .at-end)) (m .fits t g .few)))
     carried after-end i m =
         record { within = within i (m .within); tree = m .tree; formed = m .formed; whole = rw (before i (m .within)) at (m .whole) }
     carried too-deep i m =
@@ -121,18 +122,18 @@ module _ {A : Type 0} (G : Grammar A) (thrifty : Thrifty G) where
           within = within i (m .within);
           tree = m .tree;
           with-it = rw (with-it i (m .within)) at (m .with-it);
-          fits = m .fits;
-          level = m .level;
+          fits = rw (before i (m .within)) at (m .fits);
+          level = λ a g. m .level a (rw (with-it i (m .within)) g);
         }
     carried too-many i m =
         record {
           within = within i (m .within);
           tree = m .tree;
           with-it = rw (with-it i (m .within)) at (m .with-it);
-          fits = m .fits;
-          begins-here = m .begins-here;
-          flat = m .flat;
-          full = m .full;
+          fits = rw (before i (m .within)) at (m .fits);
+          begins-here = λ a g. m .begins-here a (rw (with-it i (m .within)) g);
+          flat = λ a g. m .flat a (rw (with-it i (m .within)) g);
+          full = λ a g. m .full a (rw (with-it i (m .within)) g);
         }
 
 formulas-thrifty : Thrifty formulas

@@ -12,7 +12,7 @@ use Rattle.logic.specs.Syntax.{Term, Formula}
 use Rattle.logic.specs.Text.{most-parts, most-levels}
 use Rattle.logic.specs.Depths.{begun, deepest}
 use Rattle.logic.specs.Reading.{Misreading, not-allowed, ends-early, after-end, too-deep, too-many, Out, got, bad, readTerm, readFormula, reads, faulty, closed, formulaOf, termOf}
-use Rattle.logic.specs.Misreadings.{Grammar, formulas, terms, Fits, GoesOn, NotAllowed, EndsEarly, AfterEnd, TooDeep, TooMany, Means}
+use Rattle.logic.specs.Misreadings.{Grammar, formulas, terms, Fits, GoesOn, Within, NotAllowed, EndsEarly, AfterEnd, TooDeep, TooMany, Means}
 use Rattle.logic.proofs.Languages.{Language, Alive, End, Then}
 use Rattle.logic.proofs.Serves.{Stops, Serves}
 use Rattle.logic.proofs.Misread.{term-serves, formula-serves}
@@ -48,36 +48,51 @@ module _ {A : Type 0} (G : Grammar A) (bytes : List ℕ) where
     place : i ≡ length (s .w)
     place = omega (arith, s .place)
 
-    fit : (ds e : List ℕ) → ds ≡ s .d ++ e → Fits (take i ds)
-    fit ds e h =
-        let same : take i ds ≡ s .d = first-of ds (s .d) e i h (omega (arith, s .place, s .marked)) in
+    seen : take i bytes ≡ s .w
+    seen = first-of bytes (s .w) (drop i bytes) i (s .spelt) place
+
+    next : (b : ℕ) (r : List ℕ) → drop i bytes ≡ b ∷ r → take (i + 1) bytes ≡ s .w ++ (b ∷ [])
+    next b r h = next-of bytes (s .w) r b i (s .spelt ∙ ap (λ (l : List ℕ). s .w ++ l) h) place
+
+    -- a tree that goes on from the bytes before the place, and one that goes on with the byte b, as texts of the language
+    before-whole : (a : A) (g : GoesOn G (take i bytes) a) → Whole (s .w ++ g .rest) (G .begins a)
+    before-whole a g = whole a (g .named) _ (g .goes ∙ ap (λ (l : List ℕ). l ++ g .rest) seen)
+
+    with-whole : (b : ℕ) (r : List ℕ) → drop i bytes ≡ b ∷ r → (a : A) (g : GoesOn G (take (i + 1) bytes) a) → Whole (s .w ++ (b ∷ g .rest)) (G .begins a)
+    with-whole b r h a g =
+        whole a (g .named) _ (g .goes ∙ ap (λ (l : List ℕ). l ++ g .rest) (next b r h) ∙ append-assoc (s .w) (b ∷ []) (g .rest))
+
+    front : (ds e : List ℕ) → ds ≡ s .d ++ e → take i ds ≡ s .d
+    front ds e h = first-of ds (s .d) e i h (omega (arith, s .place, s .marked))
+
+    fits : Within G (take i bytes)
+    fits a g =
+        let f = s .fixed (g .rest) (G .begins a) (before-whole a g) in
+        let same : take (length (take i bytes)) (G .begins a) ≡ s .d = ap (λ k. take k (G .begins a)) (ap length seen ∙ sym place) ∙ front (G .begins a) (f .0) (f .1) in
         record { flat = rw same (s .flat); few = rw same (omega (arith, s .count, s .few)) }
 
     goes-on : (u e : List ℕ) (q : Whole (s .w ++ u) e) → GoesOn G (take i bytes) (q .tree)
-    goes-on u e q =
-        record {
-          named = q .ok;
-          rest = u;
-          goes = spelt-by (s .w ++ u) e q ∙ ap (λ (l : List ℕ). l ++ u) (sym (first-of bytes (s .w) (drop i bytes) i (s .spelt) place));
-        }
+    goes-on u e q = record { named = q .ok; rest = u; goes = spelt-by (s .w ++ u) e q ∙ ap (λ (l : List ℕ). l ++ u) (sym seen) }
 
     -- the same with the byte b
     goes-with : (b : ℕ) (r u e : List ℕ) → drop i bytes ≡ b ∷ r → (q : Whole (s .w ++ (b ∷ u)) e) → GoesOn G (take (i + 1) bytes) (q .tree)
     goes-with b r u e h q =
-        let next = next-of bytes (s .w) r b i (s .spelt ∙ ap (λ (l : List ℕ). s .w ++ l) h) place in
         record {
           named = q .ok;
           rest = u;
-          goes = spelt-by (s .w ++ (b ∷ u)) e q ∙ sym (append-assoc (s .w) (b ∷ []) u) ∙ ap (λ (l : List ℕ). l ++ u) (sym next);
+          goes = spelt-by (s .w ++ (b ∷ u)) e q ∙ sym (append-assoc (s .w) (b ∷ []) u) ∙ ap (λ (l : List ℕ). l ++ u) (sym (next b r h));
         }
 
-    cannot : (b : ℕ) (r : List ℕ) → drop i bytes ≡ b ∷ r → ((u e : List ℕ) → Whole (s .w ++ (b ∷ u)) e → ⊥) → (a : A) → GoesOn G (take (i + 1) bytes) a → ⊥
-    cannot b r h none a g =
-        let next = next-of bytes (s .w) r b i (s .spelt ∙ ap (λ (l : List ℕ). s .w ++ l) h) place in
-        none (g .rest) (G .begins a) (whole a (g .named) _ (g .goes ∙ ap (λ (l : List ℕ). l ++ g .rest) next ∙ append-assoc (s .w) (b ∷ []) (g .rest)))
+    not-whole : ((e : List ℕ) → Whole (s .w ++ []) e → ⊥) → (a : A) → G .named a → G .spells a ≡ take i bytes → ⊥
+    not-whole none a ok e = none (G .begins a) (whole a ok _ (e ∙ seen ∙ sym (append-nil (s .w))))
 
-    level-at : (ds : List ℕ) (l : ℕ) (e : List ℕ) → ds ≡ s .d ++ (l ∷ e) → getD ds i 0 ≡ l
-    level-at ds l e h = ap (λ (z : List ℕ). getD z i 0) h ∙ getD-at (s .d) l e 0 i (omega (arith, s .place, s .marked))
+    -- the level of the part that begins at the place
+    level-at : (b l : ℕ) (r : List ℕ) → drop i bytes ≡ b ∷ r → ((u f : List ℕ) → Whole (s .w ++ (b ∷ u)) f → (g : List ℕ) × (f ≡ s .d ++ (l ∷ g))) → (a : A) → GoesOn G (take (i + 1) bytes) a → (getD (G .begins a) i 0 ≡ l) × (take i (G .begins a) ≡ s .d)
+    level-at b l r h every a g =
+        let f = every (g .rest) (G .begins a) (with-whole b r h a g) in (
+          ap (λ (z : List ℕ). getD z i 0) (f .1) ∙ getD-at (s .d) l (f .0) 0 i (omega (arith, s .place, s .marked)),
+          front (G .begins a) (l ∷ f .0) (f .1),
+        )
 
   stop-means : (k : Misreading) (i : ℕ) → Stops most-parts bytes Whole 0 0 k i → Means G bytes k i
   stop-means not-allowed i s =
@@ -87,45 +102,45 @@ module _ {A : Type 0} (G : Grammar A) (bytes : List ℕ) where
         within = inside bytes (c .1) (c .0) i (c .2);
         tree = q .tree;
         before = goes-on not-allowed i s (s .alive .0) _ q;
-        fits = fit not-allowed i s _ (s .alive .1) (marked-by _ _ q);
-        cannot = cannot not-allowed i s (c .0) (c .1) (c .2) (c .3);
+        fits = fits not-allowed i s;
+        not-whole = not-whole not-allowed i s (c .4);
+        cannot = λ a g. c .3 (g .rest) (G .begins a) (with-whole not-allowed i s (c .0) (c .1) (c .2) a g);
       }
   stop-means ends-early i s =
       let q = s .alive .2 in
       let c = s .stuck in
       let all : bytes ≡ s .w = s .spelt ∙ ap (λ (l : List ℕ). s .w ++ l) (c .0) ∙ append-nil (s .w) in
-      let g = goes-on ends-early i s (s .alive .0) _ q in
+      let same : take i bytes ≡ bytes = seen ends-early i s ∙ sym all in
       record {
         at-end = omega (arith, s .place, ap length all);
         tree = q .tree;
-        before = record { named = q .ok; rest = s .alive .0; goes = spelt-by _ _ q ∙ ap (λ (l : List ℕ). l ++ s .alive .0) (sym all) };
-        fits = fit ends-early i s _ (s .alive .1) (marked-by _ _ q);
-        not-whole = λ a ok e. c .1 (G .begins a) (whole a ok _ (e ∙ all ∙ sym (append-nil (s .w))));
+        before = subst (λ (z : List ℕ). GoesOn G z (q .tree)) same (goes-on ends-early i s (s .alive .0) _ q);
+        fits = subst (λ (z : List ℕ). Within G z) same (fits ends-early i s);
+        not-whole = λ a ok e. not-whole ends-early i s (c .1) a ok (e ∙ sym same);
       }
   stop-means after-end i s = absurd (s .stuck)
   stop-means too-deep i s =
       let c = s .stuck in
-      let q = c .5 in
+      let q = c .3 .0 .2 in
       record {
         within = inside bytes (c .1) (c .0) i (c .2);
         tree = q .tree;
-        with-it = goes-with too-deep i s (c .0) (c .1) (c .3) _ (c .2) q;
-        fits = fit too-deep i s _ _ (marked-by _ _ q);
-        level = level-at too-deep i s _ (suc most-levels) (c .4) (marked-by _ _ q);
+        with-it = goes-with too-deep i s (c .0) (c .1) (c .3 .0 .0) _ (c .2) q;
+        fits = fits too-deep i s;
+        level = λ a g. level-at too-deep i s (c .0) (suc most-levels) (c .1) (c .2) (c .3 .1) a g .0;
       }
   stop-means too-many i s =
       let c = s .stuck in
-      let q = c .6 in
-      let here = level-at too-many i s _ (c .5) (c .4) (marked-by _ _ q) in
-      let same : take i (G .begins (q .tree)) ≡ s .d = first-of _ (s .d) _ i (marked-by _ _ q) (omega (arith, s .place, s .marked)) in
+      let q = c .4 .0 .2 in
+      let here = level-at too-many i s (c .0) (c .3) (c .1) (c .2) (c .4 .1) in
       record {
         within = inside bytes (c .1) (c .0) i (c .2);
         tree = q .tree;
-        with-it = goes-with too-many i s (c .0) (c .1) (c .3) _ (c .2) q;
-        fits = fit too-many i s _ _ (marked-by _ _ q);
-        begins-here = rw here (c .7);
-        flat = rw here (c .8);
-        full = rw same (omega (arith, s .count, c .9));
+        with-it = goes-with too-many i s (c .0) (c .1) (c .4 .0 .0) _ (c .2) q;
+        fits = fits too-many i s;
+        begins-here = λ a g. rw (here a g .0) (c .5);
+        flat = λ a g. rw (here a g .0) (c .6);
+        full = λ a g. rw (here a g .1) (omega (arith, s .count, c .7));
       }
 
   -- what the bytes as a whole are told to be

@@ -413,7 +413,7 @@ module _ (most : ℕ) (bytes : List ℕ) where
       serves-byte most bytes L (λ _. K) at n _ few live (one-some _ _ 0 K)
       (λ b here. cond-both (test b) (got tt (at + 1) n) (bad not-allowed at) (Serves most bytes L (λ _. K) at n)
       (λ t. one-taken _ (λ _. w) K tt at n b few tt here (eqb-true b w (sym (only b) ∙ t)))
-      (λ t. refuses most bytes L at n b few live here (λ u e q. eqb-false b w (sym (only b) ∙ t) (one-first _ (λ _. w) 0 K b u e q))))
+      (λ t. refuses most bytes L at n b few live (one-some _ _ 0 K) here (λ u e q. eqb-false b w (sym (only b) ∙ t) (one-first _ (λ _. w) 0 K b u e q))))
 
   open-serves : (K : Language) (at n : ℕ) → n ≤ most → Alive K → Serves most bytes (Byte 'open' K) (λ _. K) at n (sign opens bytes at n)
   open-serves = byte-serves (λ b. is (classOf b) opens) 'open' is-opens
@@ -433,7 +433,7 @@ module _ (most : ℕ) (bytes : List ℕ) where
       serves-byte most bytes (Digit K) (λ _. K) at n _ few live (one-some _ _ 0 K)
       (λ b here. cond-both (is (classOf b) digits) (got (b - 48) (at + 1) n) (bad not-allowed at) (Serves most bytes (Digit K) (λ _. K) at n)
       (λ t. let r = digit-range b (sym (is-digits b) ∙ t) in one-taken _ digit K (b - 48) at n b few (omega arith) here (omega arith))
-      (λ t. refuses most bytes (Digit K) at n b few live here (λ u e q. no-digit b (q .tree) (one-first _ digit 0 K b u e q) (q .ok) (sym (is-digits b) ∙ t))))
+      (λ t. refuses most bytes (Digit K) at n b few live (one-some _ _ 0 K) here (λ u e q. no-digit b (q .tree) (one-first _ digit 0 K b u e q) (q .ok) (sym (is-digits b) ∙ t))))
 
   connective-serves : (K : Language) (at n : ℕ) → n ≤ most → Alive K → Serves most bytes (Joint K) (λ _. K) at n (connective bytes at n)
   connective-serves K at n few alive =
@@ -444,7 +444,7 @@ module _ (most : ℕ) (bytes : List ℕ) where
       cond-both (eqb b '&') _ _ S (λ t. one-taken (λ _. Unit {0}) joint K conjunction at n b few tt here (eqb-true b '&' t))
       (λ t1. cond-both (eqb b '|') _ _ S (λ t. one-taken (λ _. Unit {0}) joint K disjunction at n b few tt here (eqb-true b '|' t))
       (λ t2. cond-both (eqb b '>') _ _ S (λ t. one-taken (λ _. Unit {0}) joint K implication at n b few tt here (eqb-true b '>' t))
-      (λ t3. refuses most bytes (Joint K) at n b few live here (λ u e q. no-joint b (q .tree) (one-first (λ _. Unit {0}) joint 0 K b u e q) t1 t2 t3)))))
+      (λ t3. refuses most bytes (Joint K) at n b few live (one-some _ _ 0 K) here (λ u e q. no-joint b (q .tree) (one-first (λ _. Unit {0}) joint 0 K b u e q) t1 t2 t3)))))
 
   bound-serves : (K : Language) (at n : ℕ) → n ≤ most → Alive K → Serves most bytes (Byte 'x' (Digit K)) (λ _. K) at n (bound bytes at n)
   bound-serves K at n few alive =
@@ -479,7 +479,7 @@ module _ (most : ℕ) (bytes : List ℕ) where
       (λ t1. cond-both (eqb b 'c') _ _ S (λ t. begins head-constant b here (eqb-true b 'c' t))
       (λ t2. cond-both (eqb b 'f') _ _ S (λ t. begins head-apply1 b here (eqb-true b 'f' t))
       (λ t3. cond-both (eqb b 'g') _ _ S (λ t. begins head-apply2 b here (eqb-true b 'g' t))
-      (λ t4. refuses most bytes L at n b few live here
+      (λ t4. refuses most bytes L at n b few live (term-some l K) here
       (λ u e p. let o = out-of-term l K (b ∷ u) e p in no-head b (o .0) (one-first _ (λ _. headByte (o .0)) l (Digit (Behind (o .0) l K)) b u e (o .1)) t1 t2 t3 t4))))))
 
   -- a reader of terms at the level l, whatever is to be read behind it
@@ -559,7 +559,7 @@ module _ (most : ℕ) (bytes : List ℕ) where
       (λ t4. cond-both (eqb b 'open') _ _ S (λ t. begins open-binary b here (eqb-true b 'open' t))
       (λ t5. cond-both (eqb b 'A') _ _ S (λ t. begins (open-quantified every) b here (eqb-true b 'A' t))
       (λ t6. cond-both (eqb b 'E') _ _ S (λ t. begins (open-quantified some) b here (eqb-true b 'E' t))
-      (λ t7. refuses most bytes L at n b few live here
+      (λ t7. refuses most bytes L at n b few live (formula-some l K) here
       (λ u e p. let o = out-of-formula l K (b ∷ u) e p in no-opening b (o .0) (one-first _ (λ _. openingByte (o .0)) l (Rest (o .0) l K) b u e (o .1)) t1 t2 t3 t4 t5 t6 t7)))))))))
 
   opening-level : (o : Opening) (left at n i m : ℕ) → opening most left bytes at n ≡ got o i m → 0 < left

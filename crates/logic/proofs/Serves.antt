@@ -53,16 +53,23 @@ module _ (most : ℕ) (bytes : List ℕ) where
         along = left-then L M K (a .w) (a .d) (b .w) (b .d) (a .along) (b .along);
       }
 
+  -- every text of L that begins with w has its parts there as d says
+  abbrev Fixed : Language → List ℕ → List ℕ → Type 0
+  Fixed L w d = (u f : List ℕ) → L (w ++ u) f → (g : List ℕ) × (f ≡ d ++ g)
+
+  -- the byte b can follow w, and a part begins at it, at the level l in every text
+  abbrev Begins : Language → List ℕ → List ℕ → ℕ → ℕ → Type 0
+  Begins L w d b l = ((u : List ℕ) × (e : List ℕ) × L (w ++ (b ∷ u)) e) × ((u f : List ℕ) → L (w ++ (b ∷ u)) f → (g : List ℕ) × (f ≡ d ++ (l ∷ g)))
+
   -- what is wrong behind the bytes w, where parts began as d says and m in all, and r are the bytes from there on
   abbrev Stuck : Misreading → Language → List ℕ → List ℕ → ℕ → List ℕ → Type 0
   Stuck not-allowed L w d m r =
-      (b : ℕ) × (s : List ℕ) × (r ≡ b ∷ s) × ((u e : List ℕ) → L (w ++ (b ∷ u)) e → ⊥)
+      (b : ℕ) × (s : List ℕ) × (r ≡ b ∷ s) × ((u e : List ℕ) → L (w ++ (b ∷ u)) e → ⊥) × ((e : List ℕ) → L (w ++ []) e → ⊥)
   Stuck ends-early L w d m r = (r ≡ []) × ((e : List ℕ) → L (w ++ []) e → ⊥)
   Stuck after-end L w d m r = ⊥
-  Stuck too-deep L w d m r =
-      (b : ℕ) × (s : List ℕ) × (r ≡ b ∷ s) × (u : List ℕ) × (e : List ℕ) × L (w ++ (b ∷ u)) (d ++ (suc most-levels ∷ e))
+  Stuck too-deep L w d m r = (b : ℕ) × (s : List ℕ) × (r ≡ b ∷ s) × Begins L w d b (suc most-levels)
   Stuck too-many L w d m r =
-      (b : ℕ) × (s : List ℕ) × (r ≡ b ∷ s) × (u : List ℕ) × (e : List ℕ) × (l : ℕ) × L (w ++ (b ∷ u)) (d ++ (l ∷ e)) × (0 < l) × (l ≤ most-levels) × (m ≡ most)
+      (b : ℕ) × (s : List ℕ) × (r ≡ b ∷ s) × (l : ℕ) × Begins L w d b l × (0 < l) × (l ≤ most-levels) × (m ≡ most)
 
   pub record Stops (L : Language) (at n : ℕ) (k : Misreading) (i : ℕ) : Type 0 where
     pub w : List ℕ
@@ -74,36 +81,56 @@ module _ (most : ℕ) (bytes : List ℕ) where
     pub count : m ≡ n + begun d
     pub few : m ≤ most
     pub flat : deepest d ≤ most-levels
-    pub alive : (u : List ℕ) × (e : List ℕ) × L (w ++ u) (d ++ e)
+    pub alive : (u : List ℕ) × (e : List ℕ) × L (w ++ u) e
+    pub fixed : Fixed L w d
     pub stuck : Stuck k L w d m (drop i bytes)
+
+  -- a reader stops where it stands
+  stops-here : (L : Language) (at n : ℕ) (k : Misreading) → n ≤ most → Alive L → Stuck k L [] [] n (drop at bytes) → Stops L at n k at
+  stops-here L at n k few alive stuck =
+      record {
+        w = [];
+        d = [];
+        m = n;
+        spelt = refl;
+        place = omega arith;
+        marked = refl;
+        count = omega arith;
+        few = few;
+        flat = omega arith;
+        alive = alive;
+        fixed = λ u f h. (f, refl);
+        stuck = stuck;
+      }
+
+  none-after : (L M : Language) (w d v u : List ℕ) → Left L w d M → ((e : List ℕ) → M (v ++ u) e → ⊥) → (e : List ℕ) → L ((w ++ v) ++ u) e → ⊥
+  none-after L M w d v u p none e h = let a = p .split (v ++ u) e (rw (append-assoc w v u) at h) in none (a .0) (a .2)
+
+  -- from the parts behind w to those behind both
+  fixed-after : (L M : Language) (w d v c u t f : List ℕ) → Left L w d M → ((f : List ℕ) → M (v ++ u) f → (g : List ℕ) × (f ≡ c ++ (t ++ g))) → L ((w ++ v) ++ u) f → (g : List ℕ) × (f ≡ (d ++ c) ++ (t ++ g))
+  fixed-after L M w d v c u t f p k h =
+      let a = p .split (v ++ u) f (rw (append-assoc w v u) at h) in
+      let b = k (a .0) (a .2) in
+      (b .0, a .1 ∙ ap (λ (l : List ℕ). d ++ l) (b .1) ∙ sym (append-assoc d c (t ++ b .0)))
+
+  made-after : (L M : Language) (w d v u e : List ℕ) → Left L w d M → M (v ++ u) e → L ((w ++ v) ++ u) (d ++ e)
+  made-after L M w d v u e p h = rw (append-assoc w v u) (p .make (v ++ u) e h)
+
+  begins-after : (L M : Language) (w d v c : List ℕ) (b l : ℕ) → Left L w d M → Begins M v c b l → Begins L (w ++ v) (d ++ c) b l
+  begins-after L M w d v c b l p s = (
+    (s .0 .0, d ++ s .0 .1, made-after L M w d v (b ∷ s .0 .0) (s .0 .1) p (s .0 .2)),
+    λ u f h. fixed-after L M w d v c (b ∷ u) (l ∷ []) f p (s .1 u) h,
+  )
 
   -- what is stuck behind v in what is left behind w, is stuck behind both
   stuck-after : (k : Misreading) (L M : Language) (w d v c : List ℕ) (m : ℕ) (r : List ℕ) → Left L w d M → Stuck k M v c m r → Stuck k L (w ++ v) (d ++ c) m r
   stuck-after not-allowed L M w d v c m r p s =
-      (s .0, s .1, s .2, λ u e h. let a = p .split (v ++ (s .0 ∷ u)) e (rw (append-assoc w v (s .0 ∷ u)) at h) in s .3 u (a .0) (a .2))
-  stuck-after ends-early L M w d v c m r p s =
-      (s .0, λ e h. let a = p .split (v ++ []) e (rw (append-assoc w v []) at h) in s .1 (a .0) (a .2))
+      (s .0, s .1, s .2, λ u. none-after L M w d v (s .0 ∷ u) p (s .3 u), none-after L M w d v [] p (s .4))
+  stuck-after ends-early L M w d v c m r p s = (s .0, none-after L M w d v [] p (s .1))
   stuck-after after-end L M w d v c m r p s = s
-  stuck-after too-deep L M w d v c m r p s = (
-    s .0,
-    s .1,
-    s .2,
-    s .3,
-    s .4,
-    rw (append-assoc w v (s .0 ∷ s .3), append-assoc d c (suc most-levels ∷ s .4)) (p .make (v ++ (s .0 ∷ s .3)) (c ++ (suc most-levels ∷ s .4)) (s .5)),
-  )
-  stuck-after too-many L M w d v c m r p s = (
-    s .0,
-    s .1,
-    s .2,
-    s .3,
-    s .4,
-    s .5,
-    rw (append-assoc w v (s .0 ∷ s .3), append-assoc d c (s .5 ∷ s .4)) (p .make (v ++ (s .0 ∷ s .3)) (c ++ (s .5 ∷ s .4)) (s .6)),
-    s .7,
-    s .8,
-    s .9,
-  )
+  stuck-after too-deep L M w d v c m r p s = (s .0, s .1, s .2, begins-after L M w d v c (s .0) (suc most-levels) p (s .3))
+  stuck-after too-many L M w d v c m r p s =
+      (s .0, s .1, s .2, s .3, begins-after L M w d v c (s .0) (s .3) p (s .4), s .5, s .6, s .7)
 
   stop-after : (L M : Language) (at n j p : ℕ) (k : Misreading) (i : ℕ) → Passes L at n M j p → Stops M j p k i → Stops L at n k i
   stop-after L M at n j p k i a b =
@@ -117,8 +144,8 @@ module _ (most : ℕ) (bytes : List ℕ) where
         count = omega (arith, begun-append (a .d) (b .d), a .count, b .count);
         few = b .few;
         flat = omega (arith, deepest-append (a .d) (b .d), a .flat, b .flat);
-        alive = let q = b .alive in
-            (q .0, q .1, rw (append-assoc (a .w) (b .w) (q .0), append-assoc (a .d) (b .d) (q .1)) (a .along .make (b .w ++ q .0) (b .d ++ q .1) (q .2)));
+        alive = let q = b .alive in (q .0, a .d ++ q .1, made-after L M (a .w) (a .d) (b .w) (q .0) (q .1) (a .along) (q .2));
+        fixed = λ u f h. fixed-after L M (a .w) (a .d) (b .w) (b .d) u [] f (a .along) (b .fixed u) h;
         stuck = stuck-after k L M (a .w) (a .d) (b .w) (b .d) (b .m) (drop i bytes) (a .along) (b .stuck);
       }
 
@@ -144,36 +171,11 @@ module _ (most : ℕ) (bytes : List ℕ) where
   serves-byte L K at n f few alive some h =
       cond-both (ltb at (length bytes)) (f (getD bytes at 0)) (bad ends-early at) (Serves L K at n)
       (λ t. h (getD bytes at 0) (drop-more bytes at 0 (ltb-true at (length bytes) t)))
-      (λ t. record {
-        w = [];
-        d = [];
-        m = n;
-        spelt = refl;
-        place = omega arith;
-        marked = refl;
-        count = omega arith;
-        few = few;
-        flat = omega arith;
-        alive = alive;
-        stuck = (drop-all at bytes (ltb-false at (length bytes) t), some);
-      })
+      (λ t. stops-here L at n ends-early few alive (drop-all at bytes (ltb-false at (length bytes) t), some))
 
   -- the byte is not allowed
-  pub refuses : (L : Language) (at n b : ℕ) → n ≤ most → Alive L → drop at bytes ≡ b ∷ drop (at + 1) bytes → ((u e : List ℕ) → L (b ∷ u) e → ⊥) → Stops L at n not-allowed at
-  refuses L at n b few alive e h =
-      record {
-        w = [];
-        d = [];
-        m = n;
-        spelt = refl;
-        place = omega arith;
-        marked = refl;
-        count = omega arith;
-        few = few;
-        flat = omega arith;
-        alive = alive;
-        stuck = (b, drop (at + 1) bytes, e, h);
-      }
+  pub refuses : (L : Language) (at n b : ℕ) → n ≤ most → Alive L → ((e : List ℕ) → L [] e → ⊥) → drop at bytes ≡ b ∷ drop (at + 1) bytes → ((u e : List ℕ) → L (b ∷ u) e → ⊥) → Stops L at n not-allowed at
+  refuses L at n b few alive some e h = stops-here L at n not-allowed few alive (b, drop (at + 1) bytes, e, h, some)
 
   -- the byte is taken, and no part begins at it
   pub takes : (L K : Language) (at n b : ℕ) → n ≤ most → drop at bytes ≡ b ∷ drop (at + 1) bytes → Left L (b ∷ []) (0 ∷ []) K → Passes L at n K (at + 1) n
@@ -187,25 +189,13 @@ module _ (most : ℕ) (bytes : List ℕ) where
   -- a part begins at the byte, at the level l, or would if the limits allowed it
   pub serves-part : {A : Type 0} (L : Language) (K : A → Language) (x : A) (at n b l left : ℕ) → n ≤ most → drop at bytes ≡ b ∷ drop (at + 1) bytes → 0 < l → l + left ≡ suc most-levels → Alive (K x) → Left L (b ∷ []) (l ∷ []) (K x) → Serves L K at n (part most x left at n)
   serves-part L K x at n b l left few e pos sum alive along =
-      let u = alive .0 in
-      let f = alive .1 in
-      let made : L (b ∷ u) (l ∷ f) = along .make u f (alive .2) in
+      let made : L (b ∷ alive .0) (l ∷ alive .1) = along .make (alive .0) (alive .1) (alive .2) in
+      let live : Alive L = (b ∷ alive .0, l ∷ alive .1, made) in
+      let level : (u f : List ℕ) → L (b ∷ u) f → (g : List ℕ) × (f ≡ l ∷ g) = λ u f h. (along .split u f h .0, along .split u f h .1) in
       cond-both (eqb left 0) (bad too-deep at) (cond (ltb n most) (got x (at + 1) (n + 1)) (bad too-many at)) (Serves L K at n)
       (λ t.
       let deep : l ≡ suc most-levels = omega (arith, eqb-true left 0 t) in
-      record {
-        w = [];
-        d = [];
-        m = n;
-        spelt = refl;
-        place = omega arith;
-        marked = refl;
-        count = omega arith;
-        few = few;
-        flat = omega arith;
-        alive = (b ∷ u, l ∷ f, made);
-        stuck = (b, drop (at + 1) bytes, e, u, f, subst (λ z. L (b ∷ u) (z ∷ f)) deep made);
-      })
+      stops-here L at n too-deep few live (b, drop (at + 1) bytes, e, ((alive .0, l ∷ alive .1, made), λ u f h. (level u f h .0, level u f h .1 ∙ ap (λ z. z ∷ level u f h .0) deep))))
       (λ t.
       let low : l ≤ most-levels = omega (arith, eqb-false left 0 t) in
       cond-both (ltb n most) (got x (at + 1) (n + 1)) (bad too-many at) (Serves L K at n)
@@ -220,16 +210,4 @@ module _ (most : ℕ) (bytes : List ℕ) where
         flat = omega arith;
         along = along;
       })
-      (λ s. record {
-        w = [];
-        d = [];
-        m = n;
-        spelt = refl;
-        place = omega arith;
-        marked = refl;
-        count = omega arith;
-        few = few;
-        flat = omega arith;
-        alive = (b ∷ u, l ∷ f, made);
-        stuck = (b, drop (at + 1) bytes, e, u, f, l, made, pos, low, omega (arith, ltb-false n most s));
-      }))
+      (λ s. stops-here L at n too-many few live (b, drop (at + 1) bytes, e, l, ((alive .0, l ∷ alive .1, made), level), pos, low, omega (arith, ltb-false n most s))))

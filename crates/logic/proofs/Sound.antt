@@ -194,9 +194,6 @@ pub term-gives : (most left : ℕ) (bytes : List ℕ) (at n : ℕ) → Gives (λ
 term-gives most zero bytes at n = term-by-gives (λ at n. bad too-deep at) most 0 bytes (λ z. absurd (omega arith)) at n
 term-gives most (suc left) bytes at n = term-by-gives (readTerm most left bytes) most (suc left) bytes (λ _. rw sub-one (term-gives most left bytes)) at n
 
-pub term-sound : (most left : ℕ) (bytes : List ℕ) (t : Term) (at n i m : ℕ) → readTerm most left bytes at n ≡ got t i m → TermFound most left bytes t at n i m
-term-sound most left bytes t at n i m e = subst (Gives (λ t i m. TermFound most left bytes t at n i m)) e (term-gives most left bytes at n)
-
 opening-gives : (most left : ℕ) (bytes : List ℕ) (at n : ℕ) → Gives (λ x i m. Begun most left bytes (openingByte x) at n i m) (opening most left bytes at n)
 opening-gives most left bytes at n =
     byte-gives _ bytes at _
@@ -255,6 +252,3 @@ by-gives rec most left bytes ih at n =
 pub gives : (most left : ℕ) (bytes : List ℕ) (at n : ℕ) → Gives (λ a i m. Found most left bytes a at n i m) (readFormula most left bytes at n)
 gives most zero bytes at n = by-gives (λ at n. bad too-deep at) most 0 bytes (λ z. absurd (omega arith)) at n
 gives most (suc left) bytes at n = by-gives (readFormula most left bytes) most (suc left) bytes (λ _. rw sub-one (gives most left bytes)) at n
-
-pub sound : (most left : ℕ) (bytes : List ℕ) (a : Formula) (at n i m : ℕ) → readFormula most left bytes at n ≡ got a i m → Found most left bytes a at n i m
-sound most left bytes a at n i m e = subst (Gives (λ a i m. Found most left bytes a at n i m)) e (gives most left bytes at n)

@@ -6,6 +6,7 @@ pub mod Depths
 pub mod Class
 pub mod Reading
 pub mod Misreadings
+pub mod Exactly
 pub mod Agreement
 pub mod Long
 pub mod Examples

@@ -33,20 +33,25 @@ module _ {A : Type 0} (G : Grammar A) where
     pub rest : List ℕ
     pub goes : G .spells a ≡ bytes ++ rest
 
-  -- the bytes before the place can go on, with parts within the limits; with the byte at the place they no longer can
+  -- however the bytes go on, the parts that begin among them are within the limits
+  abbrev pub Within : List ℕ → Type 0
+  Within bytes = (a : A) → GoesOn bytes a → Fits (take (length bytes) (G .begins a))
+
+  -- the bytes before the place can go on, and are not the whole of a text; with the byte at the place they no longer can go on
   pub record NotAllowed (bytes : List ℕ) (i : ℕ) : Type 0 where
     pub within : i < length bytes
     pub tree : A
     pub before : GoesOn (take i bytes) tree
-    pub fits : Fits (take i (G .begins tree))
+    pub fits : Within (take i bytes)
+    pub not-whole : (a : A) → G .named a → G .spells a ≡ take i bytes → ⊥
     pub cannot : (a : A) → GoesOn (take (i + 1) bytes) a → ⊥
 
-  -- the bytes can go on, with parts within the limits, and are not the whole of a text
+  -- the bytes can go on, and are not the whole of a text
   pub record EndsEarly (bytes : List ℕ) (i : ℕ) : Type 0 where
     pub at-end : i ≡ length bytes
     pub tree : A
     pub before : GoesOn bytes tree
-    pub fits : Fits (take i (G .begins tree))
+    pub fits : Within bytes
     pub not-whole : (a : A) → G .named a → G .spells a ≡ bytes → ⊥
 
   -- the bytes before the place are a whole text, within the limits
@@ -56,24 +61,24 @@ module _ {A : Type 0} (G : Grammar A) where
     pub formed : G .formed tree
     pub whole : G .spells tree ≡ take i bytes
 
-  -- the bytes up to and with the one at the place can go on, and the part that begins there is the first one out of the limits:
-  -- it stands one level too deep
+  -- the bytes up to and with the one at the place can go on, and the part that begins there, however they do, is the first one
+  -- out of the limits: it stands one level too deep
   pub record TooDeep (bytes : List ℕ) (i : ℕ) : Type 0 where
     pub within : i < length bytes
     pub tree : A
     pub with-it : GoesOn (take (i + 1) bytes) tree
-    pub fits : Fits (take i (G .begins tree))
-    pub level : getD (G .begins tree) i 0 ≡ most-levels + 1
+    pub fits : Within (take i bytes)
+    pub level : (a : A) → GoesOn (take (i + 1) bytes) a → getD (G .begins a) i 0 ≡ most-levels + 1
 
   -- the same; it is not too deep, but one part too many
   pub record TooMany (bytes : List ℕ) (i : ℕ) : Type 0 where
     pub within : i < length bytes
     pub tree : A
     pub with-it : GoesOn (take (i + 1) bytes) tree
-    pub fits : Fits (take i (G .begins tree))
-    pub begins-here : 0 < getD (G .begins tree) i 0
-    pub flat : getD (G .begins tree) i 0 ≤ most-levels
-    pub full : begun (take i (G .begins tree)) ≡ most-parts
+    pub fits : Within (take i bytes)
+    pub begins-here : (a : A) → GoesOn (take (i + 1) bytes) a → 0 < getD (G .begins a) i 0
+    pub flat : (a : A) → GoesOn (take (i + 1) bytes) a → getD (G .begins a) i 0 ≤ most-levels
+    pub full : (a : A) → GoesOn (take (i + 1) bytes) a → begun (take i (G .begins a)) ≡ most-parts
 
   -- what is wrong with the bytes at the place
   abbrev pub Means : List ℕ → Misreading → ℕ → Type 0

@@ -26,10 +26,10 @@ line-means : (bytes : List ℕ) (k : Misreading) (i : ℕ) → formulaOf bytes �
 line-means bytes k i t line long e = told-early .told line (length bytes) long (held-fits bytes line e) k i (ap (λ (z : List ℕ). formulaOf z) e ∙ t)
 
 pub judged : (bytes : List ℕ) (e : Fault) → (e ≡ Memory → ⊥) → Tells Source.Formula (formulaOf bytes) e → Refused ((a : pure.Formula) → Reads bytes a → ⊥) e → Meant formulas bytes e → Faulty bytes e
-judged bytes (NotAllowed s i) n t r m = record { none = r; means = m; line-none = line-none bytes; line-means = line-means bytes _ i (t .1) }
-judged bytes (EndsEarly s i) n t r m = record { none = r; means = m; line-none = line-none bytes; line-means = line-means bytes _ i (t .1) }
-judged bytes (AfterEnd s i) n t r m = record { none = r; means = m; line-none = line-none bytes; line-means = line-means bytes _ i (t .1) }
-judged bytes (TooDeep s i) n t r m = record { none = r; means = m; line-none = line-none bytes; line-means = line-means bytes _ i (t .1) }
-judged bytes (TooMany s i) n t r m = record { none = r; means = m; line-none = line-none bytes; line-means = line-means bytes _ i (t .1) }
+judged bytes (NotAllowed s i) n t r m = record { told = t; no-want = n; none = r; means = m; line-none = line-none bytes; line-means = line-means bytes _ i (t .1) }
+judged bytes (EndsEarly s i) n t r m = record { told = t; no-want = n; none = r; means = m; line-none = line-none bytes; line-means = line-means bytes _ i (t .1) }
+judged bytes (AfterEnd s i) n t r m = record { told = t; no-want = n; none = r; means = m; line-none = line-none bytes; line-means = line-means bytes _ i (t .1) }
+judged bytes (TooDeep s i) n t r m = record { told = t; no-want = n; none = r; means = m; line-none = line-none bytes; line-means = line-means bytes _ i (t .1) }
+judged bytes (TooMany s i) n t r m = record { told = t; no-want = n; none = r; means = m; line-none = line-none bytes; line-means = line-means bytes _ i (t .1) }
 judged bytes BufferShort n t r m = absurd t
 judged bytes Memory n t r m = absurd (n refl)

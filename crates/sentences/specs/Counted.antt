@@ -10,11 +10,11 @@ abbrev more : ℕ → ℕ
 more n = min (n + 1) (2 ^ 64 - 1)
 
 abbrev formulasAfter : ℕ → Judgement → ℕ
-formulasAfter n (Formula p l v) = more n
+formulasAfter n (Formula m) = more n
 formulasAfter n (Refused e) = n
 
 abbrev refusedAfter : ℕ → Judgement → ℕ
-refusedAfter n (Formula p l v) = n
+refusedAfter n (Formula m) = n
 refusedAfter n (Refused e) = more n
 
 pub record Counts (before : Sheet) (j : Judgement) (after : Sheet) : Type 0 where
@@ -22,3 +22,9 @@ pub record Counts (before : Sheet) (j : Judgement) (after : Sheet) : Type 0 wher
   pub all : after .sentences ≡ more (before .sentences)
   pub formulas : after .formulas ≡ formulasAfter (before .formulas) j
   pub refused : after .refused ≡ refusedAfter (before .refused) j
+
+-- the counts stay
+pub record SameCounts (before after : Sheet) : Type 0 where
+  pub all : after .sentences ≡ before .sentences
+  pub formulas : after .formulas ≡ before .formulas
+  pub refused : after .refused ≡ before .refused

@@ -9,28 +9,33 @@ use Rattle.logic.specs.Syntax.{free}
 use Rattle.logic.specs.Text.{names, parts, levels, Reads}
 use Rattle.logic.specs.Misreadings.{formulas}
 use Rattle.logic.specs.Long.{longest}
-use Rattle.reader.specs.Told.{Meant}
+use Rattle.logic.specs.Reading.{formulaOf}
+use Rattle.reader.specs.Told.{Tells, Meant}
+use Rattle.formula.specs.declared.fault.Source.{Source}
 use Rattle.formula.specs.declared.fault.Fault.{Fault}
-use Rattle.formula.specs.declared.variables.Variables.{Variables}
+use Rattle.formula.specs.declared.fault.Fault.the-variants.{Memory}
+use Rattle.sentences.specs.declared.judgement.Measures.{Measures}
 use Rattle.sentences.specs.declared.judgement.Judgement.{Judgement}
 use Rattle.sentences.specs.declared.judgement.Judgement.the-variants.{Formula, Refused}
 
 -- the bytes are the text of a formula with these measures
-pub record Measured (bytes : List ℕ) (p l : ℕ) (v : Variables) : Type 0 where
+pub record Measured (bytes : List ℕ) (m : Measures) : Type 0 where
   pub sense : pure.Formula
   pub read : Reads bytes sense
-  pub of-parts : p ≡ parts sense
-  pub of-levels : l ≡ levels sense
-  pub of-free : (x : ℕ) → x < names → getD (v .holds) x false ≡ free x sense
+  pub of-parts : m .parts ≡ parts sense
+  pub of-levels : m .levels ≡ levels sense
+  pub of-free : (x : ℕ) → x < names → getD (m .free .holds) x false ≡ free x sense
 
--- the bytes are the text of no formula, and the fault means what it should; where they are more than the longest text within
--- the limits has, so it is with every line that begins with them
+-- the bytes are the text of no formula within the limits, and the fault is the one that the theory tells, and means what it
+-- should; where the bytes are more than the longest text has, so it is with every line that begins with them
 pub record Faulty (bytes : List ℕ) (e : Fault) : Type 0 where
+  pub told : Tells Source.Formula (formulaOf bytes) e
+  pub no-want : e ≡ Memory → ⊥
   pub none : (a : pure.Formula) → Reads bytes a → ⊥
   pub means : Meant formulas bytes e
   pub line-none : (line : List ℕ) → longest < length bytes → take (length bytes) line ≡ bytes → (a : pure.Formula) → Reads line a → ⊥
   pub line-means : (line : List ℕ) → longest < length bytes → take (length bytes) line ≡ bytes → Meant formulas line e
 
 abbrev pub Judged : List ℕ → Judgement → Type 0
-Judged bytes (Formula p l v) = Measured bytes p l v
+Judged bytes (Formula m) = Measured bytes m
 Judged bytes (Refused e) = Faulty bytes e

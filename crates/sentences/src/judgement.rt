@@ -8,10 +8,18 @@ use formula::Variables;
 use reader::read_formula;
 use std::alloc::Global;
 
-/// A formula's measures, or why the sentence is none.
+/// What is measured of a formula.
+#[derive(Clone, Copy)]
+pub struct Measures {
+    pub parts: usize,
+    pub levels: usize,
+    pub free: Variables,
+}
+
+/// A formula, or why the sentence is none.
 #[derive(Clone, Copy)]
 pub enum Judgement {
-    Formula(usize, usize, Variables),
+    Formula(Measures),
     Refused(Fault),
 }
 
@@ -21,11 +29,11 @@ impl Judgement {
         ensures { λ r. ⌜ Cases r (Judged (now (sentence .entry))) (λ e. e ≡ Memory) ⌝ }
     {
         match read_formula(heap, sentence) {
-            Ok(formula) => Ok(Judgement::Formula(
-                formula.parts(),
-                formula.levels(),
-                formula.free_variables(),
-            )),
+            Ok(formula) => Ok(Judgement::Formula(Measures {
+                parts: formula.parts(),
+                levels: formula.levels(),
+                free: formula.free_variables(),
+            })),
             Err(fault) => match fault {
                 Fault::Memory => Err(fault),
                 _ => Ok(Judgement::Refused(fault)),

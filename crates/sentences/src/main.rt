@@ -16,18 +16,20 @@ use formula::FaultDisplay;
 use formula::FaultError;
 use formula::VariablesDisplay;
 use judgement::Judgement;
+use judgement::Measures;
 use sheet::Sheet;
 use std::error::AnyError;
-use std::io::BufReader;
 use std::io::Read;
 
+// How many bytes are asked for at a time: a page.
 const CHUNK: usize = 4096;
 
 fn main(rt: LibcRuntime) -> Result<(), AnyError> {
     rt.report(run(&rt))
 }
 
-// Takes the sheet from standard input, chunk by chunk, and tells of each sentence as it ends.
+// Takes the sheet from standard input, chunk by chunk, and tells of each sentence as it ends. Nothing says that an input ends, so the
+// loop counts.
 fn run(rt: &LibcRuntime) -> Result<(), AnyError> {
     let mut input = rt.stdin();
     let mut sheet = Sheet::new(rt.alloc());
@@ -74,7 +76,12 @@ fn tell(rt: &LibcRuntime, sheet: &mut Sheet) -> Result<(), AnyError> {
     sheet.count(judgement);
     let number = sheet.sentences;
     match judgement {
-        Judgement::Formula(parts, levels, free) => {
+        Judgement::Formula(measures) => {
+            let Measures {
+                parts,
+                levels,
+                free,
+            } = measures;
             println!(
                 rt,
                 "{number} formula, parts {parts}, levels {levels}, free {free}"

@@ -1,9 +1,9 @@
 // A sheet of sentences, taken byte by byte.
 ghost use mathlib.Core.Path.{_≡_};
-ghost use mathlib.Core.List.{[], _∷_, _++_};
+ghost use mathlib.Core.List.{[]};
 ghost use Rattle.std.specs.Of.Vec.{vec-items};
 ghost use Rattle.sentences.specs.Held.{Holds};
-ghost use Rattle.sentences.specs.Counted.{Counts};
+ghost use Rattle.sentences.specs.Counted.{Counts, SameCounts};
 use crate::judgement::Judgement;
 use std::alloc::AllocError;
 use std::alloc::Global;
@@ -22,6 +22,7 @@ pub struct Sheet {
 }
 
 impl Sheet {
+    /// A sheet of which nothing was taken.
     pub fn new(heap: Global) -> Sheet
         ensures { λ r. ⌜ (vec-items (r .sentence) ≡ []) × (r .sentences ≡ 0) × (r .formulas ≡ 0) × (r .refused ≡ 0) ⌝ }
     {
@@ -35,7 +36,8 @@ impl Sheet {
 
     /// Adds a byte to the sentence.
     pub fn hold(&mut self, byte: u8) -> Result<(), AllocError>
-        ensures { λ r. ⌜ Holds (vec-items (now (self .entry) .sentence)) byte r (vec-items (now (self .exit) .sentence)) ⌝ }
+        ensures bytes { λ r. ⌜ Holds (vec-items (now (self .entry) .sentence)) byte r (vec-items (now (self .exit) .sentence)) ⌝ }
+        ensures counts { λ r. ⌜ SameCounts (now (self .entry)) (now (self .exit)) ⌝ }
     {
         if self.sentence.len() < HELD {
             self.sentence.push(byte)?;
@@ -49,14 +51,15 @@ impl Sheet {
     {
         self.sentences = self.sentences.saturating_add(1);
         match judgement {
-            Judgement::Formula(_, _, _) => self.formulas = self.formulas.saturating_add(1),
+            Judgement::Formula(_) => self.formulas = self.formulas.saturating_add(1),
             Judgement::Refused(_) => self.refused = self.refused.saturating_add(1),
         }
     }
 
     /// Begins the next sentence.
     pub fn next(&mut self)
-        ensures { λ _. ⌜ vec-items (now (self .exit) .sentence) ≡ [] ⌝ }
+        ensures bytes { λ _. ⌜ vec-items (now (self .exit) .sentence) ≡ [] ⌝ }
+        ensures counts { λ _. ⌜ SameCounts (now (self .entry)) (now (self .exit)) ⌝ }
     {
         self.sentence.clear();
     }

@@ -1,9 +1,7 @@
 // Which bytes of a sentence are shown.
-ghost use mathlib.Core.Path.{_≡_};
-ghost use Prim.Native.Nat.{ℕ, _≤_};
 ghost use Rattle.sentences.specs.Windows.{Around};
 
-/// The most bytes of a sentence that are shown.
+/// The most bytes of a sentence that are shown: they fit a terminal's line.
 const WIDTH: usize = 64;
 
 /// The bytes from `start` up to `end`.

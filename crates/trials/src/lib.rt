@@ -1,3 +1,3 @@
-// Examples on both sides of every limit.
+// Examples at the limits.
 #[cfg(test)]
 mod tests;

@@ -72,8 +72,23 @@ fn read(rt: LibcRuntime) -> Result<(), Fail> {
 
 #[test]
 fn terms(rt: LibcRuntime) -> Result<(), Fail> {
-    let fault = read_term(rt.alloc(), b"f0(p0)").err();
-    check_eq(fault, Some(Fault::NotAllowed(Source::Term, 3)))
+    let term = Source::Term;
+    let cases = [
+        ("", Fault::EndsEarly(term, 0)),
+        ("f0(p0)", Fault::NotAllowed(term, 3)),
+        ("c0,", Fault::AfterEnd(term, 2)),
+        (
+            "f0(f0(f0(f0(f0(f0(f0(f0(f0(f0(f0(f0(f0(f0(f0(f0(f0(f0(f0(f0(f0(f0(f0(f0(x0))))))))))))))))))))))))",
+            Fault::TooDeep(term, 72),
+        ),
+    ];
+    for (text, fault) in cases {
+        check_eq(read_term(rt.alloc(), text.as_bytes()).err(), Some(fault))?;
+    }
+    let deepest =
+        "f0(f0(f0(f0(f0(f0(f0(f0(f0(f0(f0(f0(f0(f0(f0(f0(f0(f0(f0(f0(f0(f0(f0(x0)))))))))))))))))))))))";
+    let term = read_term(rt.alloc(), deepest.as_bytes())?;
+    check_eq(term.levels(), 24)
 }
 
 #[test]
@@ -91,6 +106,8 @@ fn printed(rt: LibcRuntime) -> Result<(), Fail> {
     let mut short = [7u8; 35];
     check_eq(print_formula(&formula, &mut short), Err(Fault::BufferShort))?;
     check(short == [7u8; 35])?;
+    let mut exact = [7u8; 36];
+    check_eq(print_formula(&formula, &mut exact), Ok(36))?;
     let mut out = [7u8; 38];
     check_eq(print_formula(&formula, &mut out), Ok(36))?;
     check(&out[0..36] == text.as_bytes())?;
