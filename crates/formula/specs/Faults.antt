@@ -45,6 +45,17 @@ placeOf (TooMany s i) = i
 placeOf BufferShort = 0
 placeOf Memory = 0
 
+-- the word for the text that a fault of reading is in
 abbrev pub wordOf : Source → List ℕ
 wordOf Source.Formula = codes "formula"
 wordOf Source.Term = codes "term"
+
+-- what is said of a fault to people
+abbrev pub wordsOf : Fault → List ℕ
+wordsOf (NotAllowed s i) = codes "byte not allowed at this point"
+wordsOf (EndsEarly s i) = codes "bytes end too soon"
+wordsOf (AfterEnd s i) = codes "bytes after the end"
+wordsOf (TooDeep s i) = codes "part at level 25"
+wordsOf (TooMany s i) = codes "part 201"
+wordsOf BufferShort = codes "buffer too short"
+wordsOf Memory = codes "out of memory"

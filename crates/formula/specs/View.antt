@@ -1,6 +1,5 @@
 -- The plain trees that the program's trees stand for. Assumes nothing.
 use Rattle.logic.specs.Syntax as pure
-use Rattle.logic.specs.Class as classes
 use Rattle.formula.specs.declared.name.Name.{Name}
 use Rattle.formula.specs.declared.tree.Term.{Term}
 use Rattle.formula.specs.declared.tree.Term.the-variants.{Variable, Constant, Apply1′, Apply2′}

@@ -1,6 +1,6 @@
 // What a call can refuse, and for what.
 ghost use mathlib.Core.Path.{_≡_};
-ghost use Rattle.formula.specs.Faults.{numberOf, layerOf, placeOf, sourceOf, wordOf};
+ghost use Rattle.formula.specs.Faults.{numberOf, layerOf, placeOf, sourceOf, wordOf, wordsOf};
 ghost use Rattle.std.specs.declared.option.Option.the-variants.{Some};
 ghost use Rattle.formula.specs.declared.fault.Fault.the-variants.{Memory};
 use std::alloc::AllocError;
@@ -51,6 +51,7 @@ impl Fault {
         }
     }
 
+    /// The layer that the fault comes from.
     pub fn layer(&self) -> Layer
         ensures { λ r. ⌜ r ≡ layerOf (now (self .entry)) ⌝ }
     {
@@ -106,15 +107,17 @@ pub impl fmt::Display for Source as SourceDisplay {
 }
 
 pub impl fmt::Display for Fault as FaultDisplay {
+    ghost shown = { λ e. Some (wordsOf e) };
+
     fn fmt<W: fmt::Write>(&self, f: &mut fmt::Formatter<W>) -> fmt::Result {
         match self {
-            Fault::NotAllowed(_, _) => write!(f, "byte not allowed at this point"),
-            Fault::EndsEarly(_, _) => write!(f, "bytes end too soon"),
-            Fault::AfterEnd(_, _) => write!(f, "bytes after the end"),
-            Fault::TooDeep(_, _) => write!(f, "part at level 25"),
-            Fault::TooMany(_, _) => write!(f, "part 201"),
-            Fault::BufferShort => write!(f, "buffer too short"),
-            Fault::Memory => write!(f, "out of memory"),
+            Fault::NotAllowed(_, _) => f.pad("byte not allowed at this point"),
+            Fault::EndsEarly(_, _) => f.pad("bytes end too soon"),
+            Fault::AfterEnd(_, _) => f.pad("bytes after the end"),
+            Fault::TooDeep(_, _) => f.pad("part at level 25"),
+            Fault::TooMany(_, _) => f.pad("part 201"),
+            Fault::BufferShort => f.pad("buffer too short"),
+            Fault::Memory => f.pad("out of memory"),
         }
     }
 }

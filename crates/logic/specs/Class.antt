@@ -46,6 +46,7 @@ signOf b =
     (cond (eqb b '-') denials (cond (eqb b '&') conjunctions (cond (eqb b '|') disjunctions (cond (eqb b '>') implications
     (cond (eqb b 'A') everys (cond (eqb b 'E') somes none))))))))))))
 
+-- the class of a byte
 abbrev pub classOf : ℕ → Class
 classOf b =
     cond (isDigit b) digits (cond (eqb b 'open') opens (cond (eqb b 'close') closes (cond (eqb b 'comma') commas (signOf b))))

@@ -1,9 +1,8 @@
 -- How bytes are read, one after the other. A reader takes the bytes, the place where it stands and the number of parts that
 -- it has read; `most` is the largest number of parts. Assumes nothing.
 use Prim.Native.Nat.{ℕ, zero, suc, _+_, _-_}
-use mathlib.Core.Path.{_≡_}
 use mathlib.Core.List.{List}
-use mathlib.Core.Bool.{Bool, cond}
+use mathlib.Core.Bool.{cond}
 use lib.Dec.{eqb, ltb}
 use lib.ListN.{length, getD}
 use Rattle.logic.specs.Syntax.{Term, variable, constant, apply1, apply2, Connective, conjunction, disjunction, implication, Quantifier, every, some, Formula, pred0, pred1, pred2, negation, binary, quantified}
@@ -160,8 +159,10 @@ abbrev pub closed : {A : Type 0} → List ℕ → Out A → Verdict A
 closed bytes (got x at n) = cond (ltb at (length bytes)) (faulty after-end at) (reads x)
 closed bytes (bad k i) = faulty k i
 
+-- what the bytes are, read as a formula
 abbrev pub formulaOf : List ℕ → Verdict Formula
 formulaOf bytes = closed bytes (readFormula most-parts most-levels bytes 0 0)
 
+-- what the bytes are, read as a term
 abbrev pub termOf : List ℕ → Verdict Term
 termOf bytes = closed bytes (readTerm most-parts most-levels bytes 0 0)

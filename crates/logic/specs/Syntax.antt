@@ -1,6 +1,6 @@
 -- Terms and formulas as plain trees, each name by its number. Assumes nothing.
 use Prim.Native.Nat.{ℕ}
-use mathlib.Core.Bool.{Bool, true, false, not, _&&_, _||_}
+use mathlib.Core.Bool.{Bool, false, not, _&&_, _||_}
 use lib.Dec.{eqb}
 
 pub data Term : Type 0 where

@@ -3,9 +3,7 @@ use Prim.Native.Nat.{ℕ}
 use mathlib.Core.Path.{_≡_}
 use mathlib.Core.List.{List}
 use Rattle.std.specs.declared.result.Result.{Result}
-use Rattle.std.specs.declared.result.Result.the-variants.{Ok, Err}
 use Rattle.std.specs.Results.{Cases}
-use Rattle.logic.specs.Syntax as pure
 use Rattle.logic.specs.Text.{Reads, ReadsTerm}
 use Rattle.logic.specs.Reading.{not-allowed, ends-early, after-end, too-deep, too-many, Verdict, reads, faulty, formulaOf, termOf}
 use Rattle.logic.specs.Misreadings.{Grammar, Means, formulas, terms}
