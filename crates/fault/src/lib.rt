@@ -1,6 +1,8 @@
 // The faults: what a call can refuse, and for what.
 //
 //   fault      faults, the layers that they come from, and the texts that they are in
+#![tactic(auto)]
+
 mod fault;
 
 pub use fault::{Fault, Layer, Source};

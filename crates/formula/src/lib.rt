@@ -3,6 +3,8 @@
 //   tree       terms and formulas
 //   measures   parts, levels and free variables of a tree
 //   display    trees as text that is formatted
+#![tactic(auto)]
+
 mod display;
 mod measures;
 mod tree;

@@ -4,6 +4,8 @@
 //   measures    how broad a formula is
 //   values      the value at an assignment
 //   weights     the values at all assignments together
+#![tactic(auto)]
+
 ghost use Rattle.judge.specs.Examples.{Examples};
 
 mod assignment;

@@ -1,5 +1,7 @@
 // The theory of sentences: terms and formulas, their texts, how bytes are read, and what value a formula has in a structure. Each
 // function states a theorem; those over all scales of truth stand in the crate `scale`.
+#![tactic(auto)]
+
 ghost use Rattle.logic.specs.OneMeaning.{OneMeaning};
 ghost use Rattle.logic.specs.Depths.{Shown};
 ghost use Rattle.logic.specs.Exactly.{ReadsExactly, FaultsMean};

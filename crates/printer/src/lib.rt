@@ -1,4 +1,6 @@
 // Terms and formulas printed as text into a buffer that the caller lends.
+#![tactic(auto)]
+
 ghost use Rattle.std.specs.Prelude.{◌≡◌, ◌+◌, ◌-◌, ◌^◌, ◌≤◌, min, [], ◌∷◌, length, take, IfOk};
 ghost use Rattle.std.specs.Option.{SomeIff};
 ghost use Rattle.logic.specs.Signs.{digit as digit_of};

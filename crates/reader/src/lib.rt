@@ -1,4 +1,6 @@
 // Trees from bytes.
+#![tactic(auto)]
+
 ghost use Rattle.std.specs.Prelude.{◌≡◌, ◌<◌, ◌≤◌, length, MatchResult, OnOk, slice_index};
 ghost use Rattle.logic.specs.Reading as reading;
 ghost use Rattle.sign.specs.View.{connective, quantifier};

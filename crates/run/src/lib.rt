@@ -5,6 +5,8 @@
 //   fleet      sixty-four tables that share their elements, lent
 //   elements   what constants and functions answer, by the bytes of a table
 //   checks     what making a run from bytes looks at
+#![tactic(auto)]
+
 ghost use Rattle.std.specs.Prelude.{◌≡◌, ◌≤◌, false};
 ghost use Rattle.logic.specs.Structure.{Structure};
 ghost use Rattle.run.specs.Inside.{most_elements, inside0, inside1, inside2};

@@ -2,6 +2,8 @@
 //
 //   flag  yes or no
 //   word  sixty-four flags side by side
+#![tactic(auto)]
+
 ghost use Rattle.std.specs.Prelude.{◌≡◌, Decides};
 ghost use Rattle.logic.specs.Algebra.{Algebra, Laws, Judgeable};
 ghost use Rattle.logic.specs.Consequences.{Consequences};

@@ -4,6 +4,8 @@
 //   window     which bytes of a sentence are shown
 //   excerpt    a sentence as it is shown, with a caret under a place
 //   sheet      the sentence being taken, and the counts
+#![tactic(auto)]
+
 mod excerpt;
 mod judgement;
 mod sheet;

@@ -5,6 +5,8 @@
 //   signs      connectives and quantifiers, and their bytes
 //   class      the classes of bytes
 //   table      the class of each byte value
+#![tactic(auto)]
+
 mod class;
 mod name;
 mod signs;

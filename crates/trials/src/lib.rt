@@ -2,6 +2,8 @@
 //
 //   runs   making runs, and values in them
 //   tests  reading and printing
+#![tactic(auto)]
+
 #[cfg(test)]
 mod runs;
 #[cfg(test)]
