@@ -12,7 +12,7 @@ use std::fmt;
 // Writes a byte that is ASCII.
 fn show_byte<W: fmt::Write>(byte: u8, f: &mut fmt::Formatter<W>) -> fmt::Result
     requires { byte < 128 }
-    ensures { WritesOnOk write_str_gives f.old result (byte ∷ []) f.new }
+    ensures { WritesOnOk W.write_str_gives f.old result (byte ∷ []) f.new }
 {
     f.write_char(byte as char)
 }
@@ -20,7 +20,7 @@ fn show_byte<W: fmt::Write>(byte: u8, f: &mut fmt::Formatter<W>) -> fmt::Result
 // Writes the name with its letter.
 fn show_name<W: fmt::Write>(name: Name, letter: u8, f: &mut fmt::Formatter<W>) -> fmt::Result
     requires { letter < 128 }
-    ensures { WritesOnOk write_str_gives f.old result (letter ∷ digit_of name.digit ∷ []) f.new }
+    ensures { WritesOnOk W.write_str_gives f.old result (letter ∷ digit_of name.digit ∷ []) f.new }
 {
     show_byte(letter, f)?;
     show_byte(b'0' + name.digit, f)
@@ -30,7 +30,7 @@ impl Term {
     // Writes the term's text.
     #[cycle(show_show_one_show_two)]
     fn show<W: fmt::Write>(&self, f: &mut fmt::Formatter<W>) -> fmt::Result
-        ensures { WritesOnOk write_str_gives f.old result (term_text (term self.now)) f.new }
+        ensures { WritesOnOk W.write_str_gives f.old result (term_text (term self.now)) f.new }
     {
         match self {
             Term::Variable(x) => show_name(*x, b'x', f),
@@ -49,7 +49,7 @@ impl Term {
     // Writes the term's text in brackets.
     #[cycle(show_show_one_show_two)]
     fn show_one<W: fmt::Write>(&self, f: &mut fmt::Formatter<W>) -> fmt::Result
-        ensures { WritesOnOk write_str_gives f.old result (enclosed (term_text (term self.now))) f.new }
+        ensures { WritesOnOk W.write_str_gives f.old result (enclosed (term_text (term self.now))) f.new }
     {
         show_byte(b'(', f)?;
         self.show(f)?;
@@ -59,7 +59,7 @@ impl Term {
     // Writes the texts of this term and another in brackets.
     #[cycle(show_show_one_show_two)]
     fn show_two<W: fmt::Write>(&self, other: &Term, f: &mut fmt::Formatter<W>) -> fmt::Result
-        ensures { WritesOnOk write_str_gives f.old result (paired (term_text (term self.now)) (term_text (term other.now))) f.new }
+        ensures { WritesOnOk W.write_str_gives f.old result (paired (term_text (term self.now)) (term_text (term other.now))) f.new }
     {
         show_byte(b'(', f)?;
         self.show(f)?;
@@ -72,7 +72,7 @@ impl Term {
 impl Formula {
     // Writes the formula's text.
     fn show<W: fmt::Write>(&self, f: &mut fmt::Formatter<W>) -> fmt::Result
-        ensures { WritesOnOk write_str_gives f.old result (text (formula self.now)) f.new }
+        ensures { WritesOnOk W.write_str_gives f.old result (text (formula self.now)) f.new }
     {
         match self {
             Formula::Predicate0(p) => show_name(*p, b'p', f),

@@ -6,7 +6,7 @@ use Rattle.printer.proofs.print_formula.Goals as goal
 
 pub returns-in-Some : goal.returns-in-Some
 returns-in-Some c =
-    let p = printed (width_is (formula c.args.tree.now)) c.in-Some.ensures.0 c.write-formula.ensures in
+    let p = printed (width_is (formula c.args.tree.now)) c.in-Some.ensures.0 c.write_formula.ensures in
     record { printed = p; back = formula_back c.args.tree.now p }
 
 pub returns-in-None : goal.returns-in-None

@@ -6,7 +6,7 @@ use Rattle.printer.proofs.print_term.Goals as goal
 
 pub returns-in-Some : goal.returns-in-Some
 returns-in-Some c =
-    let p = printed (term_width_lem (term c.args.tree.now)) c.in-Some.ensures.0 c.write-term.ensures in
+    let p = printed (term_width_lem (term c.args.tree.now)) c.in-Some.ensures.0 c.write_term.ensures in
     record { printed = p; back = term_back c.args.tree.now p }
 
 pub returns-in-None : goal.returns-in-None

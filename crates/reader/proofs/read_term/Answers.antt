@@ -10,26 +10,26 @@ use Rattle.reader.proofs.read_term.Goals as goal
 pub returns : goal.returns
 returns c =
     let n = c.new-reader.ensures in
-    let r = c.in-ok-term.ensures in
+    let r = c.in_ok-term.ensures in
     term_told c.args.bytes.now _
     (told_tree (read_term most_parts most_levels) c.args.bytes.now c.new-reader.result.bytes.now _ _ n.0 n.2 n.3 _ _ _ r.2
-    (omega (arith, ap (λ z. length z.now) r.0, c.in-ok-end.ensures)))
+    (omega (arith, ap (λ z. length z.now) r.0, c.in_ok-end.ensures)))
 
-pub returns-in-err-term : goal.returns-in-err-term
-returns-in-err-term c =
+pub returns-in_err-term : goal.returns-in_err-term
+returns-in_err-term c =
     let n = c.new-reader.ensures in
     let p = err_from_is_err_and c.from-residual.result c.from-residual.ensures.1 in
-    let r = c.in-err-term.ensures in
+    let r = c.in_err-term.ensures in
     term_told c.args.bytes.now _
-    (told_err _ _ _ p.0 c.in-err-term.field-0.0 p.1 p.2
-    (told_fault (read_term most_parts most_levels) c.args.bytes.now c.new-reader.result.bytes.now _ _ n.0 n.2 n.3 Source.Term c.new-reader.result.source c.in-err-term.field-0.0 n.1 r.2))
+    (told_err _ _ _ p.0 c.in_err-term.field-0.0 p.1 p.2
+    (told_fault (read_term most_parts most_levels) c.args.bytes.now c.new-reader.result.bytes.now _ _ n.0 n.2 n.3 Source.Term c.new-reader.result.source c.in_err-term.field-0.0 n.1 r.2))
 
-pub returns-in-err-end : goal.returns-in-err-end
-returns-in-err-end c =
+pub returns-in_err-end : goal.returns-in_err-end
+returns-in_err-end c =
     let n = c.new-reader.ensures in
-    let p = err_from_is_err_and c.from-residual-in-err-end.result c.from-residual-in-err-end.ensures.1 in
-    let r = c.in-ok-term.ensures in
-    let e = c.in-err-end.ensures in
+    let p = err_from_is_err_and c.from-residual-in_err-end.result c.from-residual-in_err-end.ensures.1 in
+    let r = c.in_ok-term.ensures in
+    let e = c.in_err-end.ensures in
     term_told c.args.bytes.now _
     (told_err _ _ _ p.0 _ p.1 (p.2 ∙ e.1)
     (told_after (read_term most_parts most_levels) c.args.bytes.now c.new-reader.result.bytes.now _ _ n.0 n.2 n.3 Source.Term _ _ _ _ (r.1 ∙ n.1) r.2

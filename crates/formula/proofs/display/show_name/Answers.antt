@@ -2,4 +2,4 @@ use Rattle.formula.proofs.Shown.{next}
 use Rattle.formula.proofs.display.show_name.Goals as goal
 
 pub returns : goal.returns
-returns g c = next c.show-byte-2.result c.in-ok-show-byte.was c.show-byte.ensures c.show-byte-2.ensures
+returns g c = next c.show_byte-2.result c.in_ok-show_byte.was c.show_byte.ensures c.show_byte-2.ensures

@@ -7,4 +7,4 @@ use Rattle.formula.proofs.tree.Formula.free_variables.Goals as goal
 pub loop-digit-preserved : goal.loop-digit-preserved
 loop-digit-preserved c =
     let l : c.loop-digit.digit < 8 = omega arith in
-    marked_more (λ v. free v (formula c.args.self.now)) c.loop-digit.unbound c.loop-digit.digit c.is-free.result c.loop-digit.invariant l c.is-free.ensures
+    marked_more (λ v. free v (formula c.args.self.now)) c.loop-digit.unbound c.loop-digit.digit c.is_free.result c.loop-digit.invariant l c.is_free.ensures
