@@ -1,4 +1,4 @@
-use Rattle.std.proofs.Common.{sym, refl, ap, ◌∙◌, ap₂, add-one, arith}
+use Rattle.std.proofs.Common.{refl, add-one, arith}
 use Rattle.logic.specs.Assignment.{assign, listed}
 use Rattle.logic.specs.Value.{value}
 use Rattle.logic.proofs.Finite.{meet_settled, join_settled}
@@ -10,10 +10,10 @@ every-returns-then-is_top g t c =
     let A = g.R.Scale.Answers.algebra in
     let m = g.R.Run.meaning c.args.run.now in
     let a = formula c.args.a.now in
-    meet_settled g.met.R.Scale.Answers.judgeable (λ e. value A m (assign (listed c.args.at.elements) c.args.x.digit e) a) c.loop-e.e m.size c.and-all.result
-    (c.and-all.ensures ∙ ap₂ A.and c.loop-e.invariant (c.value.ensures ∙ ap (λ ρ. value A m ρ a) c.with.ensures))
+    meet_settled g.met.R.Scale.Answers.judgeable (λ e. value A m (assign (listed c.args.at.elements) c.args.x.digit e) a) c.loop-e.e m.size _
+    (cc)
     (omega (arith, c.size-e-end.ensures))
-    (sym c.not.ensures ∙ c.if-is_top.ensures.0 refl)
+    (cc (c.if-is_top.ensures.0 refl))
 
 pub every-loop-e-preserved : goal.every-loop-e-preserved
 every-loop-e-preserved g t c = simp add-one (cc)
@@ -23,8 +23,8 @@ some-returns-then-is_top g t c =
     let A = g.R.Scale.Answers.algebra in
     let m = g.R.Run.meaning c.args.run.now in
     let a = formula c.args.a.now in
-    join_settled g.met.R.Scale.Answers.judgeable (λ e. value A m (assign (listed c.args.at.elements) c.args.x.digit e) a) c.loop-e.e m.size c.or-any.result
-    (c.or-any.ensures ∙ ap₂ A.or c.loop-e.invariant (c.value.ensures ∙ ap (λ ρ. value A m ρ a) c.with.ensures))
+    join_settled g.met.R.Scale.Answers.judgeable (λ e. value A m (assign (listed c.args.at.elements) c.args.x.digit e) a) c.loop-e.e m.size _
+    (cc)
     (omega (arith, c.size-e-end.ensures))
     (c.if-is_top.ensures.0 refl)
 
