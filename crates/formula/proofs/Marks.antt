@@ -1,5 +1,5 @@
 -- A list of flags, filled one after the other by a test of the index. Assumes nothing.
-use Rattle.std.proofs.Common.{◌≡◌, ℕ, ◌+◌, ◌<◌, Bool, false, ◌≢◌, List, length, get_or, set, sym, arith, length-set, get_or-set_other, get_or-set_same, below_more}
+use Rattle.std.proofs.Common.{◌≡◌, ℕ, ◌+◌, ◌<◌, Bool, false, ◌≢◌, List, length, get_or, set, arith, length-set, get_or-set_other, get_or-set_same, below_more}
 
 -- the first n flags are the test's
 abbrev pub Marked : (ℕ → Bool) → List Bool → ℕ → Type 0

@@ -1,6 +1,6 @@
 -- The classes of bytes agree with the grammar. Assumes nothing.
 use Rattle.std.proofs.Common.{◌≡◌, ℕ, ◌-◌, ◌<◌, false, cond, ◌&&◌, eqb, ltb, leb, List, [], get_or, sym, refl, ap, ◌∙◌, subst, arith, lit<}
-use Rattle.std.specs.List.{AllByRecursion as All}
+use Rattle.std.specs.List.{AllByRecursion}
 use Rattle.std.proofs.ByRecursion.{All-append, All-weaker}
 use Rattle.std.proofs.lemmas.Bool.{leb-true, ltb-true, eqb-true, and_parts, both_ways, cond_both}
 use Rattle.std.proofs.lemmas.Bool.Decides.{nat_tests}
@@ -30,19 +30,19 @@ classed_letter : (q : Quantifier) → Classed (letter q)
 classed_letter every = refl
 classed_letter some = refl
 
-classed_enclosed : (s : List ℕ) → All Classed s → All Classed (enclosed s)
+classed_enclosed : (s : List ℕ) → AllByRecursion Classed s → AllByRecursion Classed (enclosed s)
 classed_enclosed s h = (refl, All-append Classed s _ h (refl, tt))
 
-classed_paired : (s t : List ℕ) → All Classed s → All Classed t → All Classed (paired s t)
+classed_paired : (s t : List ℕ) → AllByRecursion Classed s → AllByRecursion Classed t → AllByRecursion Classed (paired s t)
 classed_paired s t h k = (refl, All-append Classed s _ h (refl, All-append Classed t _ k (refl, tt)))
 
-term_classed : (t : Term) → TermNamed t → All Classed (term_text t)
+term_classed : (t : Term) → TermNamed t → AllByRecursion Classed (term_text t)
 term_classed (variable x) ok = (refl, (classed_digit x ok, tt))
 term_classed (constant c) ok = (refl, (classed_digit c ok, tt))
 term_classed (apply1 f s) ok = (refl, (classed_digit f ok.0, classed_enclosed _ (term_classed s ok.1)))
 term_classed (apply2 f s t) ok = (refl, (classed_digit f ok.0, classed_paired _ _ (term_classed s ok.1) (term_classed t ok.2)))
 
-classed : (a : Formula) → Named a → All Classed (text a)
+classed : (a : Formula) → Named a → AllByRecursion Classed (text a)
 classed (pred0 p) ok = (refl, (classed_digit p ok, tt))
 classed (pred1 p s) ok = (refl, (classed_digit p ok.0, classed_enclosed _ (term_classed s ok.1)))
 classed (pred2 p s t) ok = (refl, (classed_digit p ok.0, classed_paired _ _ (term_classed s ok.1) (term_classed t ok.2)))
@@ -51,7 +51,7 @@ classed (binary k a b) ok =
     (refl, All-append Classed (text a) _ (classed a ok.0) (classed_joint k, All-append Classed (text b) _ (classed b ok.1) (refl, tt)))
 classed (quantified q x a) ok = (classed_letter q, (refl, (classed_digit x ok.0, classed a ok.1)))
 
-lacks : (b : ℕ) (bytes : List ℕ) → class_of b ≡ none → All Classed bytes → Lacks b bytes
+lacks : (b : ℕ) (bytes : List ℕ) → class_of b ≡ none → AllByRecursion Classed bytes → Lacks b bytes
 lacks b bytes e h =
     All-weaker Classed _ (λ c k same. both_ways (is (class_of c) none) k (ap (λ z. is (class_of z) none) same ∙ ap (λ z. is z none) e)) bytes h
 

@@ -1,5 +1,5 @@
 -- Classes are told apart by their numbers. Assumes nothing.
-use Rattle.std.proofs.Common.{◌≡◌, ℕ, T, List, [], ◌∷◌, get_or, sym, refl, ap, ◌∙◌, eqb→eq}
+use Rattle.std.proofs.Common.{◌≡◌, T, List, [], ◌∷◌, get_or, sym, refl, ap, ◌∙◌, eqb→eq}
 use Rattle.logic.specs.Class.{Class, none, digits, opens, closes, commas, variables, constants, functions1, functions2, predicates0, predicates1, predicates2, denials, conjunctions, disjunctions, implications, everys, somes, number, is}
 
 abbrev all : List Class

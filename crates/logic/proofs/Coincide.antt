@@ -1,5 +1,5 @@
 -- A value depends on the free variables alone. Assumes nothing.
-use Rattle.std.proofs.Common.{◌≡◌, ℕ, ◌<◌, Bool, true, false, cond, not, ◌&&◌, ◌||◌, eqb, sym, refl, ap, ◌∙◌, subst, ap₂}
+use Rattle.std.proofs.Common.{◌≡◌, ℕ, ◌<◌, Bool, true, false, cond, not, eqb, refl, ap, subst, ap₂}
 use Rattle.logic.specs.Syntax.{Term, variable, constant, apply1, apply2, Formula, pred0, pred1, pred2, negation, binary, quantified, occurs, free}
 use Rattle.logic.specs.Assignment.{assign}
 use Rattle.logic.specs.Algebra.{Algebra}

@@ -1,5 +1,5 @@
 -- Finitely many values joined by `and` and by `or`. Assumes nothing.
-use Rattle.std.proofs.Common.{◌≡◌, ℕ, zero, suc, ◌<◌, ◌≤◌, ◌⊎◌, sym, refl, ap, ◌∙◌, inl, inr, suc-le-suc, zero-le, le_refl, le_of_suc-le-suc, not-suc-le-zero, eq-or-lt_of_le, arith}
+use Rattle.std.proofs.Common.{◌≡◌, ℕ, zero, suc, ◌<◌, ◌≤◌, sym, refl, ap, ◌∙◌, inl, inr, suc-le-suc, zero-le, le_of_suc-le-suc, not-suc-le-zero, eq-or-lt_of_le, arith}
 use mathlib.Core.Path.{fun_ext}
 use Rattle.logic.specs.Syntax.{Quantifier}
 use Rattle.logic.specs.Algebra.{Algebra, Laws, Judgeable, AtLeast}

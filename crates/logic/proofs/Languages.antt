@@ -1,8 +1,8 @@
 -- Languages of texts, each text with the places where its parts begin, and what is left of one behind some bytes.
 -- Assumes nothing.
-use Rattle.std.proofs.Common.{◌≡◌, ℕ, ◌+◌, ◌<◌, ◌≤◌, List, [], ◌∷◌, ◌++◌, length, sym, refl, ap, ◌∙◌, subst, append_assoc, arith}
-use Rattle.logic.specs.Syntax.{Term, Connective, Formula}
-use Rattle.logic.specs.Signs.{'x', 'open', 'close', 'comma', digit, joint}
+use Rattle.std.proofs.Common.{◌≡◌, ℕ, ◌<◌, List, [], ◌∷◌, ◌++◌, sym, refl, ap, ◌∙◌, append_assoc}
+use Rattle.logic.specs.Syntax.{Connective}
+use Rattle.logic.specs.Signs.{'open', 'close', 'comma', digit, joint}
 use Rattle.logic.specs.Text.{names, term_text, text, TermNamed, Named}
 use Rattle.logic.specs.Depths.{term_depths, depths}
 

@@ -1,13 +1,11 @@
 -- What a reader's answer means for the bytes as a whole. Assumes nothing.
-use Rattle.std.proofs.Common.{◌≡◌, ℕ, suc, ◌+◌, ◌<◌, ◌≤◌, Bool, true, false, cond, ltb, List, [], ◌∷◌, ◌++◌, length, get_or, take, drop, sym, refl, ap, ◌∙◌, subst, append_assoc, append-nil, arith, length-append, length-drop}
-use Rattle.std.proofs.lemmas.List.{take_at, get_or_at, drop_at}
+use Rattle.std.proofs.Common.{◌≡◌, ℕ, suc, ◌+◌, ◌<◌, ltb, List, [], ◌∷◌, ◌++◌, length, get_or, take, drop, sym, refl, ap, ◌∙◌, subst, append_assoc, append-nil, arith, length-append, length-drop}
+use Rattle.std.proofs.lemmas.List.{take_at, get_or_at}
 use Rattle.std.proofs.lemmas.Bool.{cond_both}
-use Rattle.logic.specs.Syntax.{Term, Formula}
 use Rattle.logic.specs.Text.{most_parts, most_levels}
-use Rattle.logic.specs.Depths.{begun, deepest}
 use Rattle.logic.specs.Reading.{Misreading, not_allowed, ends_early, after_end, too_deep, too_many, Out, got, bad, read_term, read_formula, reads, faulty, closed, formula_of, term_of}
-use Rattle.logic.specs.Misreadings.{Grammar, formulas, terms, Fits, GoesOn, Within, NotAllowed, EndsEarly, AfterEnd, TooDeep, TooMany, Means}
-use Rattle.logic.proofs.Languages.{Language, Alive, End, Then}
+use Rattle.logic.specs.Misreadings.{Grammar, formulas, terms, GoesOn, Within, AfterEnd, Means}
+use Rattle.logic.proofs.Languages.{Language, End, Then}
 use Rattle.logic.proofs.Serves.{Stops, Serves}
 use Rattle.logic.proofs.Misread.{term_serves, formula_serves}
 use Rattle.logic.proofs.Exact.{formula_after, term_after}

@@ -1,16 +1,16 @@
 -- Each misreading means what it should. Assumes nothing.
-use Rattle.std.proofs.Common.{◌≡◌, ℕ, zero, suc, ◌+◌, ◌-◌, ◌<◌, ◌≤◌, Bool, true, false, cond, ◌&&◌, eqb, ltb, leb, List, [], ◌∷◌, ◌++◌, length, get_or, drop, sym, refl, ap, ◌∙◌, subst, append_assoc, sub-one, arith}
+use Rattle.std.proofs.Common.{◌≡◌, ℕ, zero, suc, ◌+◌, ◌-◌, ◌<◌, ◌≤◌, Bool, true, false, cond, ◌&&◌, eqb, ltb, leb, List, [], ◌∷◌, ◌++◌, length, drop, sym, refl, ap, ◌∙◌, subst, append_assoc, arith}
 use Rattle.std.proofs.lemmas.Bool.{eqb-true, eqb-false, leb-true, ltb-true, and_parts, both_ways, cond_both}
 use Rattle.std.proofs.lemmas.Bool.Decides.{nat_tests}
-use Rattle.logic.specs.Syntax.{Term, variable, constant, apply1, apply2, Connective, conjunction, disjunction, implication, Quantifier, every, some, Formula, pred0, pred1, pred2, negation, binary, quantified}
-use Rattle.logic.specs.Signs.{'x', 'c', 'f', 'g', 'p', 'q', 'r', '-', '&', '|', '>', 'A', 'E', 'open', 'close', 'comma', digit, joint, letter}
-use Rattle.logic.specs.Class.{Class, digits, opens, closes, commas, class_of, is}
-use Rattle.logic.specs.Text.{names, most_parts, most_levels, enclosed, paired, term_text, text, TermNamed, Named}
-use Rattle.logic.specs.Depths.{enclosed_depths, paired_depths, term_depths, depths, begun, deepest}
-use Rattle.logic.specs.Reading.{Misreading, not_allowed, ends_early, after_end, too_deep, too_many, Out, got, bad, bind, Head, head_variable, head_constant, head_apply1, head_apply2, Opening, open_pred0, open_pred1, open_pred2, open_negation, open_binary, open_quantified, with_byte, sign, name, part, head, argument, arguments, applied, term_by, read_term, head_at, opening_at, connective_at, opening, connective, bound, joined, generalised, rest, formula_by, read_formula}
+use Rattle.logic.specs.Syntax.{Term, variable, constant, apply1, apply2, Connective, conjunction, disjunction, implication, every, some, Formula, pred0, pred1, pred2, negation, binary, quantified}
+use Rattle.logic.specs.Signs.{'x', 'c', 'f', 'g', 'p', 'q', 'r', '-', '&', '|', '>', 'A', 'E', 'open', 'close', 'comma', digit, joint}
+use Rattle.logic.specs.Class.{digits, opens, closes, commas, class_of, is}
+use Rattle.logic.specs.Text.{names, most_levels, enclosed, paired, term_text, text, TermNamed, Named}
+use Rattle.logic.specs.Depths.{enclosed_depths, paired_depths, term_depths, depths}
+use Rattle.logic.specs.Reading.{not_allowed, too_deep, Out, got, bad, Head, head_variable, head_constant, head_apply1, head_apply2, Opening, open_pred0, open_pred1, open_pred2, open_negation, open_binary, open_quantified, with_byte, sign, name, part, head, argument, arguments, applied, term_by, read_term, head_at, opening_at, connective_at, opening, connective, bound, rest, formula_by, read_formula}
 use Rattle.logic.proofs.Steps.{head_byte, opening_byte, is_opens, is_closes, is_commas, is_digits}
-use Rattle.logic.proofs.Languages.{Language, Alive, End, Then, then_alive, Byte, Digit, Joint, TermAt, FormulaAt, Argument, Arguments, Left}
-use Rattle.logic.proofs.Serves.{Passes, stay, Stops, Serves, serves_step, serves_bind, serves_byte, refuses, takes, serves_part}
+use Rattle.logic.proofs.Languages.{Language, Alive, Then, then_alive, Byte, Digit, Joint, TermAt, FormulaAt, Argument, Arguments, Left}
+use Rattle.logic.proofs.Serves.{Passes, stay, Serves, serves_step, serves_bind, serves_byte, refuses, takes, serves_part}
 
 -- A language whose texts begin with one byte of a tree.
 

@@ -1,8 +1,8 @@
 -- A reader serves a language: it passes along a text of it, or stops where the bytes leave it or the limits. Assumes nothing.
-use Rattle.std.proofs.Common.{◌≡◌, ℕ, zero, suc, ◌+◌, ◌<◌, ◌≤◌, max, Bool, true, false, cond, eqb, ltb, List, [], ◌∷◌, ◌++◌, length, get_or, drop, sym, refl, ap, ◌∙◌, subst, append_assoc, append-nil, arith, length-append}
+use Rattle.std.proofs.Common.{◌≡◌, ℕ, zero, suc, ◌+◌, ◌<◌, ◌≤◌, max, cond, eqb, ltb, List, [], ◌∷◌, ◌++◌, length, get_or, drop, sym, refl, ap, ◌∙◌, append_assoc, arith, length-append}
 use Rattle.std.proofs.lemmas.List.{drop_more, drop_all}
 use Rattle.std.proofs.lemmas.Bool.{ltb-true, ltb-false, eqb-true, eqb-false, cond_both}
-use Rattle.logic.specs.Text.{most_parts, most_levels}
+use Rattle.logic.specs.Text.{most_levels}
 use Rattle.logic.specs.Depths.{begun, deepest}
 use Rattle.logic.specs.Reading.{Misreading, not_allowed, ends_early, after_end, too_deep, too_many, Out, got, bad, bind, with_byte, part}
 use Rattle.logic.proofs.Languages.{Language, Alive, Left, left_none, left_then}

@@ -1,5 +1,5 @@
 -- The weight is the greatest lower bound of the values, and a variable that is not free changes no weight. Assumes nothing.
-use Rattle.std.proofs.Common.{◌≡◌, ℕ, zero, suc, ◌<◌, ◌≤◌, true, false, cond, not, eqb, ◌≢◌, ◌⊎◌, replicate, sym, refl, ap, ◌∙◌, subst, ap₂, inl, inr, zero-le, not-suc-le-zero, arith}
+use Rattle.std.proofs.Common.{◌≡◌, ℕ, zero, suc, ◌<◌, ◌≤◌, true, false, not, eqb, replicate, refl, ap, ◌∙◌, subst, inl, inr, zero-le, arith}
 use mathlib.Core.Path.{fun_ext}
 use mathlib.Core.Bool.{false≢true}
 use Rattle.std.proofs.lemmas.Bool.{eqb-true, eqb-false, or_cases, and_parts}
@@ -8,7 +8,7 @@ use Rattle.logic.specs.Text.{names, TermNamed, Named}
 use Rattle.logic.specs.Assignment.{assign, listed}
 use Rattle.logic.specs.Algebra.{Algebra, Laws, Judgeable, AtLeast}
 use Rattle.logic.specs.Structure.{Structure}
-use Rattle.logic.specs.Value.{meet, Into, value, Holds}
+use Rattle.logic.specs.Value.{meet, Into, value}
 use Rattle.logic.specs.Weight.{everywhere, zeros, weight, Weighed, WeightMeans}
 use Rattle.logic.proofs.Numbers.{same, other, compared, assign_at, assign_off, assign_swap}
 use Rattle.logic.proofs.Boolean.{and_self}

@@ -1,6 +1,6 @@
 -- The classes of bytes agree with the grammar. Assumes nothing.
 use Rattle.std.specs.Prelude.{◌≡◌, ℕ, ◌<◌, List, [], ◌∷◌, ◌++◌, ◌≢◌}
-use Rattle.std.specs.List.{AllByRecursion as All}
+use Rattle.std.specs.List.{AllByRecursion}
 use Rattle.logic.specs.Syntax.{Term, variable, constant, apply1, apply2, Connective, conjunction, disjunction, implication, every, some, Formula, pred0, pred1, pred2, negation, binary, quantified}
 use Rattle.logic.specs.Signs.{'x', 'open', 'close', digit}
 use Rattle.logic.specs.Text.{names, enclosed, paired, term_text, text, TermNamed, Named}
@@ -8,7 +8,7 @@ use Rattle.logic.specs.Class.{Class, none, digits, opens, closes, commas, variab
 
 -- the byte is none of these
 abbrev pub Lacks : ℕ → List ℕ → Type 0
-Lacks b bytes = All (λ c. c ≢ b) bytes
+Lacks b bytes = AllByRecursion (λ c. c ≢ b) bytes
 
 -- the byte stands between the texts of two formulas
 abbrev pub Joins : ℕ → Connective → Type 0

@@ -1,5 +1,5 @@
 -- What is printed reads back. Assumes nothing.
-use Rattle.std.proofs.Common.{◌≡◌, ℕ, List, ◌++◌, length, take, drop, sym, ap, ◌∙◌}
+use Rattle.std.proofs.Common.{◌≡◌, ℕ, List, take, drop, sym, ap, ◌∙◌}
 use Rattle.std.proofs.lemmas.List.{take_at}
 use Rattle.logic.specs.Text.{text, term_text, Named, TermNamed}
 use Rattle.formula.specs.View.{term, formula}

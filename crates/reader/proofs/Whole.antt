@@ -1,7 +1,7 @@
 -- From the last step of a reader to what is told of the whole text. Assumes nothing.
-use Rattle.std.proofs.Common.{◌≡◌, ℕ, ◌<◌, ◌≤◌, Bool, true, false, cond, ltb, List, length, Ok, Err, Result, sym, refl, ap, ◌∙◌, MatchResult}
+use Rattle.std.proofs.Common.{◌≡◌, ℕ, ◌<◌, ◌≤◌, true, false, ltb, List, length, Err, Result, sym, refl, ap, ◌∙◌, MatchResult}
 use Rattle.std.proofs.lemmas.Bool.{lt-ltb, le-ltb}
-use Rattle.logic.specs.Reading.{Misreading, not_allowed, ends_early, after_end, too_deep, too_many, Out, got, bad, Verdict, reads, faulty, closed}
+use Rattle.logic.specs.Reading.{Out, got, reads, closed}
 use Rattle.reader.specs.Answers.{Failed}
 use Rattle.reader.specs.Told.{Tells}
 use Rattle.fault.specs.declared.fault.Source.{Source}

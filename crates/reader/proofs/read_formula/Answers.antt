@@ -18,7 +18,7 @@ returns c =
 pub returns-in_err-formula : goal.returns-in_err-formula
 returns-in_err-formula c =
     let n = c.new-reader.ensures in
-    let p = err_from_is_err_and c.from-residual.result c.from-residual.ensures.1 in
+    let p = err_from_is_err_and c.from_residual.result c.from_residual.ensures.1 in
     let r = c.in_err-formula.ensures in
     formula_told c.args.bytes.now _
     (told_err _ _ _ p.0 c.in_err-formula.field-0.0 p.1 p.2
@@ -27,7 +27,7 @@ returns-in_err-formula c =
 pub returns-in_err-end : goal.returns-in_err-end
 returns-in_err-end c =
     let n = c.new-reader.ensures in
-    let p = err_from_is_err_and c.from-residual-in_err-end.result c.from-residual-in_err-end.ensures.1 in
+    let p = err_from_is_err_and c.from_residual-in_err-end.result c.from_residual-in_err-end.ensures.1 in
     let r = c.in_ok-formula.ensures in
     let e = c.in_err-end.ensures in
     formula_told c.args.bytes.now _

@@ -8,11 +8,11 @@ term-returns-in_err-head t c = search (rules, unroll)
 pub term-returns-in_err-name : goal.term-returns-in_err-name
 term-returns-in_err-name t c = search (rules, unroll)
 
-pub term-returns-in_err-s : goal.term-returns-in_err-s
-term-returns-in_err-s t c = search (rules, unroll)
+pub term-returns-in_err-s-in-Apply1 : goal.term-returns-in_err-s-in-Apply1
+term-returns-in_err-s-in-Apply1 t c = search (rules, unroll)
 
-pub term-returns-in_err-s-2 : goal.term-returns-in_err-s-2
-term-returns-in_err-s-2 t c = search (rules, unroll)
+pub term-returns-in_err-s-in-Apply2 : goal.term-returns-in_err-s-in-Apply2
+term-returns-in_err-s-in-Apply2 t c = search (rules, unroll)
 
 pub term-returns-in-Variable : goal.term-returns-in-Variable
 term-returns-in-Variable t c = search (rules, unroll)
@@ -20,8 +20,8 @@ term-returns-in-Variable t c = search (rules, unroll)
 pub term-returns-in-Constant : goal.term-returns-in-Constant
 term-returns-in-Constant t c = search (rules, unroll)
 
-pub term-returns-in_ok-new : goal.term-returns-in_ok-new
-term-returns-in_ok-new t c = search (rules, unroll)
+pub term-returns-in_ok-new-in-Apply1 : goal.term-returns-in_ok-new-in-Apply1
+term-returns-in_ok-new-in-Apply1 t c = search (rules, unroll)
 
-pub term-returns-in_ok-new-3 : goal.term-returns-in_ok-new-3
-term-returns-in_ok-new-3 t c = search (rules, unroll)
+pub term-returns-in_ok-new-in-Apply2-2 : goal.term-returns-in_ok-new-in-Apply2-2
+term-returns-in_ok-new-in-Apply2-2 t c = search (rules, unroll)

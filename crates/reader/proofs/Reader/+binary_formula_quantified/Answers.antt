@@ -5,35 +5,35 @@ use Rattle.reader.proofs.Reader.+binary_formula_quantified.Goals as goal
 pub formula-returns-in_err-opening : goal.formula-returns-in_err-opening
 formula-returns-in_err-opening t c = search (rules, unroll_formula)
 
-pub formula-returns-in_err-name : goal.formula-returns-in_err-name
-formula-returns-in_err-name t c = search (rules, unroll_formula)
+pub formula-returns-in_err-name-in-Predicate0 : goal.formula-returns-in_err-name-in-Predicate0
+formula-returns-in_err-name-in-Predicate0 t c = search (rules, unroll_formula)
 
-pub formula-returns-in_err-name-2 : goal.formula-returns-in_err-name-2
-formula-returns-in_err-name-2 t c = search (rules, unroll_formula)
+pub formula-returns-in_err-name-in-Predicate1 : goal.formula-returns-in_err-name-in-Predicate1
+formula-returns-in_err-name-in-Predicate1 t c = search (rules, unroll_formula)
 
-pub formula-returns-in_err-s : goal.formula-returns-in_err-s
-formula-returns-in_err-s t c = search (rules, unroll_formula)
+pub formula-returns-in_err-s-in-Predicate1 : goal.formula-returns-in_err-s-in-Predicate1
+formula-returns-in_err-s-in-Predicate1 t c = search (rules, unroll_formula)
 
-pub formula-returns-in_err-name-3 : goal.formula-returns-in_err-name-3
-formula-returns-in_err-name-3 t c = search (rules, unroll_formula)
+pub formula-returns-in_err-name-in-Predicate2 : goal.formula-returns-in_err-name-in-Predicate2
+formula-returns-in_err-name-in-Predicate2 t c = search (rules, unroll_formula)
 
-pub formula-returns-in_err-s-2 : goal.formula-returns-in_err-s-2
-formula-returns-in_err-s-2 t c = search (rules, unroll_formula)
+pub formula-returns-in_err-s-in-Predicate2 : goal.formula-returns-in_err-s-in-Predicate2
+formula-returns-in_err-s-in-Predicate2 t c = search (rules, unroll_formula)
 
-pub formula-returns-in_err-a : goal.formula-returns-in_err-a
-formula-returns-in_err-a t c = search (rules, unroll_formula)
+pub formula-returns-in_err-a-in-Not : goal.formula-returns-in_err-a-in-Not
+formula-returns-in_err-a-in-Not t c = search (rules, unroll_formula)
 
-pub formula-returns-in_ok-name : goal.formula-returns-in_ok-name
-formula-returns-in_ok-name t c = search (rules, unroll_formula)
+pub formula-returns-in_ok-name-in-Predicate0 : goal.formula-returns-in_ok-name-in-Predicate0
+formula-returns-in_ok-name-in-Predicate0 t c = search (rules, unroll_formula)
 
-pub formula-returns-in_ok-s : goal.formula-returns-in_ok-s
-formula-returns-in_ok-s t c = search (rules, unroll_formula)
+pub formula-returns-in_ok-s-in-Predicate1 : goal.formula-returns-in_ok-s-in-Predicate1
+formula-returns-in_ok-s-in-Predicate1 t c = search (rules, unroll_formula)
 
-pub formula-returns-in_ok-s-2 : goal.formula-returns-in_ok-s-2
-formula-returns-in_ok-s-2 t c = search (rules, unroll_formula)
+pub formula-returns-in_ok-s-in-Predicate2 : goal.formula-returns-in_ok-s-in-Predicate2
+formula-returns-in_ok-s-in-Predicate2 t c = search (rules, unroll_formula)
 
-pub formula-returns-in_ok-new : goal.formula-returns-in_ok-new
-formula-returns-in_ok-new t c = search (rules, unroll_formula)
+pub formula-returns-in_ok-new-in-Not : goal.formula-returns-in_ok-new-in-Not
+formula-returns-in_ok-new-in-Not t c = search (rules, unroll_formula)
 
 pub formula-returns-in-Bracket : goal.formula-returns-in-Bracket
 formula-returns-in-Bracket t c = search (rules, unroll_formula)
