@@ -1,6 +1,5 @@
 -- What a milepost run means. Assumes nothing.
 use Rattle.std.specs.Prelude.{◌≡◌, ℕ, ◌+◌, ◌-◌, ◌<◌, ◌≤◌, min, Bool, false, cond, ◌&&◌, [], ◌∷◌, None, Option, ◌==◌, nat_lt}
-use Rattle.std.proofs.Common.{arith}
 use Rattle.fault.specs.declared.fault.Fault.{Fault}
 use Rattle.fault.specs.declared.fault.Fault.TheVariants.{SizeOutOfRange}
 use Rattle.logic.specs.Structure.{Structure}
@@ -8,7 +7,7 @@ use Rattle.scale.specs.declared.flag.Flag.{Flag}
 use Rattle.scale.specs.Flags.{flag}
 use Rattle.run.specs.declared.milepost.MilepostRun.{MilepostRun}
 use Rattle.run.specs.Checks.{first_of, sized}
-use Rattle.run.specs.Inside.{most_elements, inside1, inside2, cond_lt}
+use Rattle.run.specs.Inside.{most_elements, inside1, inside2, cond_lt, min_last_lt}
 
 -- f0(a) is the element behind a, or the last one
 abbrev pub next : ℕ → ℕ → ℕ → ℕ
@@ -30,7 +29,7 @@ mileposts n some = record {
   pred2 = λ d a b. flag (before n d a b);
   inhabited = some;
   con_in = λ d. some;
-  fun1_in = λ d a. cond_lt (inside1 n d a && d == 0) (min (a + 1) (n - 1)) 0 n (omega arith) some;
+  fun1_in = λ d a. cond_lt (inside1 n d a && d == 0) (min (a + 1) (n - 1)) 0 n (min_last_lt (a + 1) n some) some;
   fun2_in = λ d a b. some;
 }
 

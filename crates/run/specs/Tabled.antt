@@ -1,8 +1,9 @@
 -- The structure that two lists of entries give: elements for constants and functions, values for predicates. Assumes nothing.
 use Rattle.std.specs.Prelude.{ℕ, ◌-◌, ◌<◌, ◌≤◌, min, max, cond, List, Some, None, Option, slice_index}
-use Rattle.std.proofs.Common.{arith}
+use Rattle.std.proofs.Common.{lit≤}
+use Rattle.std.proofs.Math.Nat.{le-max_left, max-le, min-le_right}
 use Rattle.logic.specs.Structure.{Structure}
-use Rattle.run.specs.Inside.{most_elements, inside0, inside1, inside2, cond_lt}
+use Rattle.run.specs.Inside.{most_elements, inside0, inside1, inside2, cond_lt, min_last_lt}
 use Rattle.run.specs.Layout.{place0, place1, place2}
 
 -- A size out of bounds and an entry that is no element are in no run that `new` made. The nearest stands in for them, so that every
@@ -22,14 +23,14 @@ answer_at f other None = other
 answer_at f other (Some i) = f i
 
 -- these keep to the bounds
-pub entry_in : (n : ℕ) (elements : List ℕ) (i : ℕ) → entry_of n elements i < size_of n
-entry_in n elements i = omega arith
-
 pub size_some : (n : ℕ) → 1 ≤ size_of n
-size_some n = omega arith
+size_some n = le-max_left 1 (min n most_elements)
 
 pub size_few : (n : ℕ) → size_of n ≤ most_elements
-size_few n = omega arith
+size_few n = max-le (lit≤ tt) (min-le_right n most_elements)
+
+pub entry_in : (n : ℕ) (elements : List ℕ) (i : ℕ) → entry_of n elements i < size_of n
+entry_in n elements i = min_last_lt (slice_index elements i) (size_of n) (size_some n)
 
 -- the structure
 abbrev pub tabled : {V : Type 0} → V → ℕ → List ℕ → (ℕ → V) → Structure V
