@@ -10,7 +10,7 @@ loop-digit-preserved c =
     let n = c.loop-digit.count in
     let a = formula c.args.f.now in
     let h = c.loop-digit.invariant.0 in
-    let e = c.free-variables-free.ensures d c.loop-digit-test.true in
+    let e = c.free_variables-free.ensures d c.loop-digit-test.true in
     elim c.if-free-digit.branch [
       | then-free-digit w ↦ (w.count-is ∙ counted_more a d n true h (sym w.if-free-digit.true ∙ e), omega (arith, w.count-is))
       | else-free-digit w ↦ (w.count-is ∙ sym (add-zero n) ∙ counted_more a d n false h (sym w.if-free-digit.false ∙ e), omega (arith, w.count-is))

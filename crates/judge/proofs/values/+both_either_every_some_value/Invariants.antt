@@ -22,10 +22,10 @@ decreases-value g l = 2 * the_size l.f.now
 
 abbrev pub invariant-every-loop-e : goal.invariant-every-loop-e
 invariant-every-loop-e g l =
-    let A = g.Scale.Answers.algebra in
+    let A = g.R.Scale.Answers.algebra in
     l.all ≡ meet A (λ e. value A (g.R.Run.meaning l.run) (assign (listed l.at.elements) l.x.digit e) (formula l.a)) l.e
 
 abbrev pub invariant-some-loop-e : goal.invariant-some-loop-e
 invariant-some-loop-e g l =
-    let A = g.Scale.Answers.algebra in
+    let A = g.R.Scale.Answers.algebra in
     l.any ≡ join A (λ e. value A (g.R.Run.meaning l.run) (assign (listed l.at.elements) l.x.digit e) (formula l.a)) l.e

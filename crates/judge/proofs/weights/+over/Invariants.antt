@@ -10,7 +10,7 @@ decreases-over g l = l.below
 
 abbrev pub invariant-loop-e : goal.invariant-loop-e
 invariant-loop-e g l =
-    let A = g.Scale.Answers.algebra in
+    let A = g.R.Scale.Answers.algebra in
     let m = g.R.Run.meaning l.run in
     let n = l.last.digit in
     (get_or l.cells n A.top ≡ meet A (λ i. everywhere A m.size (λ ρ. value A m ρ (formula l.f)) n (assign (listed l.at.elements) n i)) l.e)

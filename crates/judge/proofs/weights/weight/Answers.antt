@@ -1,4 +1,4 @@
-use Rattle.std.proofs.Common.{◌≡◌, ◌≤◌, length, ap, ◌∙◌, arith}
+use Rattle.std.proofs.Common.{◌≤◌, length, ap, ◌∙◌, arith}
 use Rattle.logic.specs.Text.{names}
 use Rattle.logic.specs.Value.{value}
 use Rattle.logic.specs.Weight.{everywhere}
@@ -9,7 +9,7 @@ use Rattle.judge.proofs.weights.weight.Goals as goal
 
 pub returns : goal.returns
 returns g c =
-    let A = g.Scale.Answers.algebra in
+    let A = g.R.Scale.Answers.algebra in
     let m = g.R.Run.meaning c.args.run.now in
     let room : cells_wanted ≤ length c.args.cells.now = omega arith in (
       room,
