@@ -2,9 +2,11 @@
 """Respells the repository's own definitions, fields, constructors and lemmas in snake case: `termText` and `most-parts` become `term_text` and `most_parts`.
 
 usage: python3 tools/respell.py          at the top of the repository: rewrites .antt, .rt and .edit files below crates/ in place
-       python3 tools/respell.py --list   prints what would be renamed, and which names would fall together
+       python3 tools/respell.py --list   prints what would be renamed, which names would fall together, and which a function of src/ has too
 
-Functions of src/, names that the check makes (the goals in Answers.antt and Invariants.antt), names of the library, strings and comments of code keep their spelling.
+It was run once, after the kit's port.py had turned the paths and clauses. Names that the check makes (the goals in Answers.antt and
+Invariants.antt) keep their spelling, and so do strings and comments of .rt and .antt files; an edit of specs/ or proofs/ is turned whole.
+A clash with a name of the library shows only when the crate is checked.
 """
 import os
 import re

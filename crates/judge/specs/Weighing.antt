@@ -7,7 +7,7 @@ use Rattle.logic.specs.Structure.{Structure}
 use Rattle.logic.specs.Weight.{weight}
 use Rattle.sign.specs.declared.variables.Variables.{Variables}
 
--- how many cells weighing takes
+-- how many cells weighing asks for
 abbrev pub cells_wanted : ℕ
 cells_wanted = 64
 

@@ -17,8 +17,8 @@ use sign::{NAMES, Name, Variables};
 /// How many cells weighing asks for. It has one for each variable in use, with room for a language of more variables.
 pub const CELLS: usize = 64;
 
-/// The values of the formula at all assignments, joined by `and`; none where there are fewer than `CELLS` cells. What the first
-/// `CELLS` cells hold then is left open, the others are as they were.
+/// The values of the formula at all assignments, joined by `and`; none where there are fewer than `CELLS` cells, and then all cells
+/// are as they were. Where there is a value, what the first `CELLS` cells hold is left open, and the others are as they were.
 pub fn weight<R: Run>(run: &R, f: &Formula, cells: &mut [R::Scale]) -> Option<R::Scale>
     ensures { Weighing R.Scale.Answers.algebra (R.Run.meaning run.now) (formula f.now) cells.old cells.new result }
 {

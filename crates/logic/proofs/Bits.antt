@@ -23,13 +23,13 @@ flip x p = grind (arith, nat_tests)
 same_low : (x y : ℕ) → x < 2 → y < 2 → eqb x 1 ≡ eqb y 1 → x ≡ y
 same_low x y p q h = grind (arith, nat_tests)
 
-pub bit-bit_and : (k a b : ℕ) → bit (bit_and a b) k ≡ (bit a k && bit b k)
-bit-bit_and zero a b = ap (λ n. eqb n 1) (and_low a b) ∙ min_and (a % 2) (b % 2) (omega arith) (omega arith)
-bit-bit_and (suc k) a b = ap (λ n. bit n k) (and_shr a b 1) ∙ bit-bit_and k (a / 2) (b / 2)
+pub bit_bit_and : (k a b : ℕ) → bit (bit_and a b) k ≡ (bit a k && bit b k)
+bit_bit_and zero a b = ap (λ n. eqb n 1) (and_low a b) ∙ min_and (a % 2) (b % 2) (omega arith) (omega arith)
+bit_bit_and (suc k) a b = ap (λ n. bit n k) (and_shr a b 1) ∙ bit_bit_and k (a / 2) (b / 2)
 
-pub bit-bit_or : (k a b : ℕ) → bit (bit_or a b) k ≡ (bit a k || bit b k)
-bit-bit_or zero a b = ap (λ n. eqb n 1) (or_low a b) ∙ max_or (a % 2) (b % 2) (omega arith) (omega arith)
-bit-bit_or (suc k) a b = ap (λ n. bit n k) (or_shr a b 1) ∙ bit-bit_or k (a / 2) (b / 2)
+pub bit_bit_or : (k a b : ℕ) → bit (bit_or a b) k ≡ (bit a k || bit b k)
+bit_bit_or zero a b = ap (λ n. eqb n 1) (or_low a b) ∙ max_or (a % 2) (b % 2) (omega arith) (omega arith)
+bit_bit_or (suc k) a b = ap (λ n. bit n k) (or_shr a b 1) ∙ bit_bit_or k (a / 2) (b / 2)
 
 -- the complement in w digits
 pub bit_not : (k w a : ℕ) → k < w → a < 2 ^ w → bit ((2 ^ w - 1) - a) k ≡ not (bit a k)

@@ -35,7 +35,7 @@ pub trait Run {
     /// What the run means.
     ghost meaning: { Self → Structure Self.Scale };
 
-    /// The bound that the cells of a judge and the loops over elements rest on.
+    /// A run has at most `MOST_ELEMENTS` elements.
     ghost few: { (r : Self) → (meaning r).size ≤ most_elements };
 
     /// How many elements there are.

@@ -3,7 +3,7 @@ use Rattle.std.specs.Prelude.{◌≡◌, ℕ, ◌^◌, ◌<◌}
 use Rattle.std.proofs.Common.{ap, subst}
 use Rattle.std.proofs.Math.Bridge.{le_prop}
 use Rattle.logic.specs.Algebra.{Laws}
-use Rattle.logic.proofs.Bits.{bit-bit_and, bit-bit_or, bit_not, bit_zero, bit_ones, same_bits}
+use Rattle.logic.proofs.Bits.{bit_bit_and, bit_bit_or, bit_not, bit_zero, bit_ones, same_bits}
 use Rattle.logic.proofs.Images.{laws_image}
 use Rattle.scale.specs.declared.word.Word.{Word}
 use Rattle.scale.specs.Flags.{flag}
@@ -20,8 +20,8 @@ pub bit_by_bit : BitByBit
 bit_by_bit k h = record {
   top = ap flag (bit_ones k 64 h);
   bottom = ap flag (bit_zero k);
-  and = λ a b. ap flag (bit-bit_and k a.bits b.bits);
-  or = λ a b. ap flag (bit-bit_or k a.bits b.bits);
+  and = λ a b. ap flag (bit_bit_and k a.bits b.bits);
+  or = λ a b. ap flag (bit_bit_or k a.bits b.bits);
   not = λ a. ap flag (bit_not k 64 a.bits h a.small);
 }
 
