@@ -75,29 +75,30 @@ def defined(path):
     return {n for n in found if n not in asked and n not in ("data", "record", "where", "pub", "abbrev")}
 
 
-def code_parts(text):
-    """Splits Rattle source into (is_plain, text): comments and strings are not plain."""
-    out, at = [], 0
-    for m in re.finditer(r'//[^\n]*|"(?:\\.|[^"\\])*"|b?\'(?:\\.|[^\'\\])\'', text):
-        out.append((True, text[at:m.start()]))
-        out.append((False, m.group(0)))
-        at = m.end()
-    out.append((True, text[at:]))
-    return out
-
-
-def antt_parts(text):
-    out, at = [], 0
-    for m in re.finditer(r'--[^\n]*|"(?:\\.|[^"\\])*"', text):
-        out.append((True, text[at:m.start()]))
-        out.append((False, m.group(0)))
-        at = m.end()
-    out.append((True, text[at:]))
-    return out
+# comments and literals, in Rattle source and in a file of specs/ or proofs/
+IN_CODE = re.compile(r'//[^\n]*|"(?:\\.|[^"\\])*"|b?\'(?:\\.|[^\'\\])\'')
+IN_ANTT = re.compile(r'--[^\n]*|"(?:\\.|[^"\\])*"')
 
 
 def put(text, table):
     return TOKEN.sub(lambda m: m.group(0) if STEP.search(text[max(0, m.start() - 6) : m.start()]) else table.get(m.group(0), m.group(0)), text)
+
+
+def put_around(kept, text, table):
+    """`put` in all of the text but the parts that `kept` finds."""
+    out, at = [], 0
+    for m in kept.finditer(text):
+        out += [put(text[at : m.start()], table), m.group(0)]
+        at = m.end()
+    return "".join(out) + put(text[at:], table)
+
+
+def respelt(path, text, table):
+    if path.endswith(".antt"):
+        return put_around(IN_ANTT, text, table)
+    if path.endswith(".edit") and re.match(r"file: (specs|proofs)/", text):
+        return put(text, table)
+    return put_around(IN_CODE, text, table)
 
 
 def main(argv):
@@ -129,13 +130,7 @@ def main(argv):
         return 0
     for p in files((".antt", ".rt", ".edit")):
         text = read(p)
-        if p.endswith(".antt"):
-            new = "".join(put(t, table) if plain else t for plain, t in antt_parts(text))
-        elif p.endswith(".rt"):
-            new = "".join(put(t, table) if plain else t for plain, t in code_parts(text))
-        else:
-            head = text.split("\n", 1)[0]
-            new = put(text, table) if "specs/" in head or "proofs/" in head else "".join(put(t, table) if plain else t for plain, t in code_parts(text))
+        new = respelt(p, text, table)
         if new != text:
             with open(p, "w", encoding="utf-8") as f:
                 f.write(new)
