@@ -22,18 +22,21 @@ impl Elements<'_> {
         self.stated.min(MOST_ELEMENTS).max(1)
     }
 
+    /// The element that a constant stands for.
     pub fn constant(&self, digit: u8) -> u8
         ensures { result ≡ (if inside0 digit then entry_of self.now.stated self.now.entries.now (place0 digit) else 0) }
     {
         self.entry(self.place0(digit))
     }
 
+    /// What a function of one argument answers.
     pub fn apply1(&self, digit: u8, a: u8) -> u8
         ensures { result ≡ (if inside1 (size_of self.now.stated) digit a then entry_of self.now.stated self.now.entries.now (place1 (size_of self.now.stated) digit a) else 0) }
     {
         self.entry(self.place1(digit, a))
     }
 
+    /// What a function of two arguments answers.
     pub fn apply2(&self, digit: u8, a: u8, b: u8) -> u8
         ensures { result ≡ (if inside2 (size_of self.now.stated) digit a b then entry_of self.now.stated self.now.entries.now (place2 (size_of self.now.stated) digit a b) else 0) }
     {

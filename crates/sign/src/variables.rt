@@ -1,5 +1,8 @@
 // Sets of variables.
-ghost use Rattle.std.specs.Prelude.{◌≡◌, false, slice_index_or};
+ghost use Rattle.std.specs.Prelude.{◌≡◌, ◌<◌, false, Some, slice_index_or};
+ghost use Rattle.std.specs.Fmt.{WritesOnOk};
+ghost use Rattle.logic.specs.Text.{names};
+ghost use Rattle.sign.specs.Shown.{piece, variables_text};
 
 use crate::name::{NAMES, Name};
 use std::fmt;
@@ -20,18 +23,32 @@ impl Variables {
 }
 
 impl fmt::Display for Variables {
+    ghost output = { λ v. Some (variables_text v.holds) };
+
     fn fmt<W: fmt::Write>(&self, f: &mut fmt::Formatter<W>) -> fmt::Result {
         let mut is_empty = true;
         for digit in 0..NAMES {
             if self.holds[digit] {
-                let blank = if is_empty { "" } else { " " };
-                write!(f, "{blank}x{digit}")?;
+                show_variable(digit as u8, is_empty, f)?;
                 is_empty = false;
             }
         }
         if is_empty {
-            write!(f, "none")?;
+            f.write_str("none")
+        } else {
+            Ok(())
         }
-        Ok(())
     }
+}
+
+// Writes the variable with this digit, behind a blank where it is not the first.
+fn show_variable<W: fmt::Write>(digit: u8, is_first: bool, f: &mut fmt::Formatter<W>) -> fmt::Result
+    requires { digit < names }
+    ensures { WritesOnOk W.write_str_gives f.old result (piece is_first digit) f.new }
+{
+    if !is_first {
+        f.write_char(' ')?;
+    }
+    f.write_char('x')?;
+    f.write_char((b'0' + digit) as char)
 }
