@@ -14,6 +14,16 @@ pub enum Source {
     Term,
 }
 
+/// What is wrong with bytes that are read.
+#[derive(Clone, Copy, PartialEq, Eq, Debug)]
+pub enum Misreading {
+    NotAllowed,
+    EndsEarly,
+    AfterEnd,
+    TooDeep,
+    TooMany,
+}
+
 /// The layer that a fault comes from.
 #[derive(Clone, Copy, PartialEq, Eq, Debug)]
 pub enum Layer {
@@ -26,11 +36,7 @@ pub enum Layer {
 /// Why a call was refused. A fault of reading has the text that it is in and the place of its byte.
 #[derive(Clone, Copy, PartialEq, Eq, Debug)]
 pub enum Fault {
-    NotAllowed(Source, usize),
-    EndsEarly(Source, usize),
-    AfterEnd(Source, usize),
-    TooDeep(Source, usize),
-    TooMany(Source, usize),
+    Reading(Misreading, Source, usize),
     SizeOutOfRange,
     WrongCount,
     ElementOutOfRange,
@@ -45,11 +51,11 @@ impl Fault {
         ensures { result ≡ number_of self.now }
     {
         match self {
-            Fault::NotAllowed(_, _) => Some(5),
-            Fault::EndsEarly(_, _) => Some(6),
-            Fault::AfterEnd(_, _) => Some(7),
-            Fault::TooDeep(_, _) => Some(8),
-            Fault::TooMany(_, _) => Some(9),
+            Fault::Reading(Misreading::NotAllowed, _, _) => Some(5),
+            Fault::Reading(Misreading::EndsEarly, _, _) => Some(6),
+            Fault::Reading(Misreading::AfterEnd, _, _) => Some(7),
+            Fault::Reading(Misreading::TooDeep, _, _) => Some(8),
+            Fault::Reading(Misreading::TooMany, _, _) => Some(9),
             Fault::SizeOutOfRange => Some(19),
             Fault::WrongCount => Some(20),
             Fault::ElementOutOfRange => Some(21),
@@ -64,11 +70,7 @@ impl Fault {
         ensures { result ≡ layer_of self.now }
     {
         match self {
-            Fault::NotAllowed(_, _)
-            | Fault::EndsEarly(_, _)
-            | Fault::AfterEnd(_, _)
-            | Fault::TooDeep(_, _)
-            | Fault::TooMany(_, _) => Layer::Reader,
+            Fault::Reading(_, _, _) => Layer::Reader,
             Fault::SizeOutOfRange
             | Fault::WrongCount
             | Fault::ElementOutOfRange
@@ -83,11 +85,7 @@ impl Fault {
         ensures { result ≡ place_of self.now }
     {
         match self {
-            Fault::NotAllowed(_, place)
-            | Fault::EndsEarly(_, place)
-            | Fault::AfterEnd(_, place)
-            | Fault::TooDeep(_, place)
-            | Fault::TooMany(_, place) => *place,
+            Fault::Reading(_, _, place) => *place,
             Fault::SizeOutOfRange
             | Fault::WrongCount
             | Fault::ElementOutOfRange
@@ -101,17 +99,8 @@ impl Fault {
         ensures { result ≡ source_of self.now }
     {
         match self {
-            Fault::NotAllowed(source, _)
-            | Fault::EndsEarly(source, _)
-            | Fault::AfterEnd(source, _)
-            | Fault::TooDeep(source, _)
-            | Fault::TooMany(source, _) => Some(*source),
-            Fault::SizeOutOfRange
-            | Fault::WrongCount
-            | Fault::ElementOutOfRange
-            | Fault::NotATruthValue
-            | Fault::BufferShort
-            | Fault::Memory => None,
+            Fault::Reading(_, source, _) => Some(*source),
+            _ => None,
         }
     }
 }
@@ -120,10 +109,10 @@ impl fmt::Display for Source {
     ghost output = { λ s. Some (word_of s) };
 
     fn fmt<W: fmt::Write>(&self, f: &mut fmt::Formatter<W>) -> fmt::Result {
-        match self {
-            Source::Formula => f.pad("formula"),
-            Source::Term => f.pad("term"),
-        }
+        f.pad(match self {
+            Source::Formula => "formula",
+            Source::Term => "term",
+        })
     }
 }
 
@@ -131,19 +120,19 @@ impl fmt::Display for Fault {
     ghost output = { λ e. Some (words_of e) };
 
     fn fmt<W: fmt::Write>(&self, f: &mut fmt::Formatter<W>) -> fmt::Result {
-        match self {
-            Fault::NotAllowed(_, _) => f.pad("byte not allowed at this point"),
-            Fault::EndsEarly(_, _) => f.pad("bytes end too soon"),
-            Fault::AfterEnd(_, _) => f.pad("bytes after the end"),
-            Fault::TooDeep(_, _) => f.pad("part at level 25"),
-            Fault::TooMany(_, _) => f.pad("part 201"),
-            Fault::SizeOutOfRange => f.pad("size out of range"),
-            Fault::WrongCount => f.pad("wrong number of bytes or words"),
-            Fault::ElementOutOfRange => f.pad("element not below the size"),
-            Fault::NotATruthValue => f.pad("truth byte not 0 or 1"),
-            Fault::BufferShort => f.pad("buffer too short"),
-            Fault::Memory => f.pad("out of memory"),
-        }
+        f.pad(match self {
+            Fault::Reading(Misreading::NotAllowed, _, _) => "byte not allowed at this point",
+            Fault::Reading(Misreading::EndsEarly, _, _) => "bytes end too soon",
+            Fault::Reading(Misreading::AfterEnd, _, _) => "bytes after the end",
+            Fault::Reading(Misreading::TooDeep, _, _) => "part at level 25",
+            Fault::Reading(Misreading::TooMany, _, _) => "part 201",
+            Fault::SizeOutOfRange => "size out of range",
+            Fault::WrongCount => "wrong number of bytes or words",
+            Fault::ElementOutOfRange => "element not below the size",
+            Fault::NotATruthValue => "truth byte not 0 or 1",
+            Fault::BufferShort => "buffer too short",
+            Fault::Memory => "out of memory",
+        })
     }
 }
 

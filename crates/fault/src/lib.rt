@@ -5,4 +5,4 @@
 
 mod fault;
 
-pub use fault::{Fault, Layer, Source};
+pub use fault::{Fault, Layer, Misreading, Source};

@@ -1,3 +1,4 @@
 pub mod View
 pub mod Table
 pub mod Shown
+pub mod Sets

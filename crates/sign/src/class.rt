@@ -6,7 +6,7 @@ ghost use Rattle.sign.specs.Table.{class, follows};
 use crate::table::CLASSES;
 
 /// What a byte can be in a text: a digit, a bracket, a comma, else the sign that it is or begins, or none.
-#[derive(Clone, Copy)]
+#[derive(Clone, Copy, PartialEq, Eq, Debug)]
 pub enum Class {
     None,
     Digit,
@@ -40,7 +40,7 @@ impl Class {
     pub fn has(self, byte: u8) -> bool
         ensures { result ≡ is (class_of byte) (class self) }
     {
-        Class::of(byte) as u8 == self as u8
+        Class::of(byte) == self
     }
 
     // The class that a table has for a byte: its rule, where the table follows it.

@@ -6,7 +6,7 @@ ghost use Rattle.logic.specs.Text.{names};
 pub const NAMES: usize = 8;
 
 /// The digit behind the letter of a name, below `NAMES`.
-#[derive(Clone, Copy)]
+#[derive(Clone, Copy, PartialEq, Eq, Debug)]
 pub struct Name {
     pub digit: u8,
     ghost small: { digit < names },

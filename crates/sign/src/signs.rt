@@ -3,7 +3,7 @@ ghost use Rattle.std.specs.Prelude.{◌≡◌};
 ghost use Rattle.logic.specs.Signs.{joint, letter as letter_of};
 ghost use Rattle.sign.specs.View.{connective, quantifier};
 
-#[derive(Clone, Copy)]
+#[derive(Clone, Copy, PartialEq, Eq, Debug)]
 pub enum Connective {
     And,
     Or,
@@ -23,7 +23,7 @@ impl Connective {
     }
 }
 
-#[derive(Clone, Copy)]
+#[derive(Clone, Copy, PartialEq, Eq, Debug)]
 pub enum Quantifier {
     Every,
     Some,

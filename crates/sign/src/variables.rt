@@ -1,14 +1,15 @@
 // Sets of variables.
-ghost use Rattle.std.specs.Prelude.{◌≡◌, ◌<◌, false, Some, slice_index_or};
+ghost use Rattle.std.specs.Prelude.{◌≡◌, ◌<◌, Some};
 ghost use Rattle.std.specs.Fmt.{WritesOnOk};
 ghost use Rattle.logic.specs.Text.{names};
+ghost use Rattle.sign.specs.Sets.{is_in};
 ghost use Rattle.sign.specs.Shown.{piece, variables_text};
 
 use crate::name::{NAMES, Name};
 use std::fmt;
 
 /// A set of variables: for each digit, whether its variable is in the set.
-#[derive(Clone, Copy)]
+#[derive(Clone, Copy, PartialEq, Eq, Debug)]
 pub struct Variables {
     pub holds: [bool; NAMES],
 }
@@ -16,7 +17,7 @@ pub struct Variables {
 impl Variables {
     /// Whether the variable is in the set.
     pub fn contains(&self, variable: Name) -> bool
-        ensures { result ≡ slice_index_or self.now.holds variable.digit false }
+        ensures { result ≡ is_in self.now variable.digit }
     {
         self.holds[variable.digit as usize]
     }
@@ -27,8 +28,8 @@ impl fmt::Display for Variables {
 
     fn fmt<W: fmt::Write>(&self, f: &mut fmt::Formatter<W>) -> fmt::Result {
         let mut is_empty = true;
-        for digit in 0..NAMES {
-            if self.holds[digit] {
+        for (digit, is_in) in self.holds.iter().enumerate() {
+            if *is_in {
                 show_variable(digit as u8, is_empty, f)?;
                 is_empty = false;
             }
