@@ -1,11 +1,13 @@
 // Parts, levels and free variables of a tree.
-ghost use Rattle.std.specs.Prelude.{◌≡◌, ℕ, ◌-◌, ◌^◌, ◌<◌, min, false, slice_index_or};
+ghost use Rattle.std.specs.Prelude.{◌≡◌, ◌<◌, ◌-◌, ◌^◌, min};
 ghost use Rattle.logic.specs.Syntax.{occurs, free};
 ghost use Rattle.logic.specs.Text.{names, term_parts, parts as parts_of, term_levels, levels as levels_of};
+ghost use Rattle.sign.specs.Sets.{IsSetOf};
 ghost use Rattle.formula.specs.View.{term, formula};
 
 use crate::tree::{Formula, Term};
-use sign::{NAMES, Name, Variables};
+use sign::{Name, Variables};
+use std::array;
 
 impl Term {
     /// How many parts the term has; `usize::MAX` where there are more than that.
@@ -35,7 +37,7 @@ impl Term {
         ensures { result ≡ occurs variable.digit (term self.now) }
     {
         match self {
-            Term::Variable(x) => x.digit == variable.digit,
+            Term::Variable(x) => *x == variable,
             Term::Constant(_) => false,
             Term::Apply1(_, s) => s.has(variable),
             Term::Apply2(_, s, t) => s.has(variable) || t.has(variable),
@@ -44,13 +46,15 @@ impl Term {
 
     /// The variables that stand in the term.
     pub fn variables(&self) -> Variables
-        ensures { (v : ℕ) → v < names → slice_index_or result.holds v false ≡ occurs v (term self.now) }
+        ensures { IsSetOf (λ x. occurs x (term self.now)) result }
     {
-        let mut found = [false; NAMES];
-        for digit in 0..NAMES {
-            found[digit] = self.has(Name { digit: digit as u8 });
+        Variables {
+            holds: array::from_fn(
+                |x|
+                    requires { x < names }
+                { self.has(Name { digit: x as u8 }) },
+            ),
         }
-        Variables { holds: found }
     }
 }
 
@@ -91,18 +95,20 @@ impl Formula {
             Formula::Predicate2(_, s, t) => s.has(variable) || t.has(variable),
             Formula::Not(a) => a.is_free(variable),
             Formula::Binary(_, a, b) => a.is_free(variable) || b.is_free(variable),
-            Formula::Quantified(_, x, a) => x.digit != variable.digit && a.is_free(variable),
+            Formula::Quantified(_, x, a) => *x != variable && a.is_free(variable),
         }
     }
 
     /// The variables that stand free in the formula.
     pub fn free_variables(&self) -> Variables
-        ensures { (v : ℕ) → v < names → slice_index_or result.holds v false ≡ free v (formula self.now) }
+        ensures { IsSetOf (λ x. free x (formula self.now)) result }
     {
-        let mut unbound = [false; NAMES];
-        for digit in 0..NAMES {
-            unbound[digit] = self.is_free(Name { digit: digit as u8 });
+        Variables {
+            holds: array::from_fn(
+                |x|
+                    requires { x < names }
+                { self.is_free(Name { digit: x as u8 }) },
+            ),
         }
-        Variables { holds: unbound }
     }
 }

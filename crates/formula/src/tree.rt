@@ -1,7 +1,7 @@
 // Terms and formulas as trees.
 use sign::{Connective, Name, Quantifier};
 
-#[derive(Drop)]
+#[derive(Debug, Drop)]
 pub enum Term {
     Variable(Name),
     Constant(Name),
@@ -9,7 +9,7 @@ pub enum Term {
     Apply2(Name, Box<Term>, Box<Term>),
 }
 
-#[derive(Drop)]
+#[derive(Debug, Drop)]
 pub enum Formula {
     Predicate0(Name),
     Predicate1(Name, Term),

@@ -1,5 +1,0 @@
-use Rattle.formula.proofs.tree.Formula.TheLaws.{the_size}
-use Rattle.formula.proofs.tree.Formula.+levels.Given as goal
-
-abbrev pub decreases-levels : goal.decreases-levels
-decreases-levels l = the_size l.self.now
