@@ -1,5 +1,5 @@
 -- What is told of a text is exact, and means what it should. Assumes nothing.
-use Rattle.std.proofs.Common.{◌≡◌, ℕ, List, Ok, Err, Result, sym, ◌∙◌, arith, MatchResult}
+use Rattle.std.proofs.Common.{◌≡◌, ℕ, List, Ok, Err, Result, refl, sym, ◌∙◌, arith, MatchResult}
 use Rattle.logic.specs.Text.{Reads, ReadsTerm}
 use Rattle.logic.specs.Reading.{Misreading, Verdict, reads, faulty, formula_of, term_of}
 use Rattle.logic.specs.Misreadings.{Grammar, Means, formulas, terms}
@@ -9,9 +9,11 @@ use Rattle.formula.specs.View.{term, formula}
 use Rattle.reader.specs.Told.{Tells, Refused, Meant, Read, FormulaRead, TermRead}
 use Rattle.formula.specs.declared.tree.Term.{Term}
 use Rattle.formula.specs.declared.tree.Formula.{Formula}
+use Rattle.fault.proofs.Mapped.{mapped}
+use Rattle.reader.specs.Answers.{misreading}
 use Rattle.fault.specs.declared.fault.Source.{Source}
 use Rattle.fault.specs.declared.fault.Fault.{Fault}
-use Rattle.fault.specs.declared.fault.Fault.TheVariants.{NotAllowed, EndsEarly, AfterEnd, TooDeep, TooMany, SizeOutOfRange, WrongCount, ElementOutOfRange, NotATruthValue, BufferShort, Memory}
+use Rattle.fault.specs.declared.fault.Fault.TheVariants.{Reading, SizeOutOfRange, WrongCount, ElementOutOfRange, NotATruthValue, BufferShort, Memory}
 
 module _ {X A : Type 0} (G : Grammar A) (Is : A → Type 0) (verdict : Verdict A) (s : Source) (view : X → A) (bytes : List ℕ)
     (is_read : (a : A) → Is a → verdict ≡ reads a) (read_is : (a : A) → verdict ≡ reads a → Is a)
@@ -20,30 +22,16 @@ module _ {X A : Type 0} (G : Grammar A) (Is : A → Type 0) (verdict : Verdict A
   not_both k i e a h = let both : reads a ≡ faulty k i = sym (is_read a h) ∙ e in let no : ◌≡◌ {A = ℕ} 0 1 = cc in omega arith
 
   refused : (e : Fault) → Tells s verdict e → Refused ((a : A) → Is a → ⊥) e
-  refused (NotAllowed r i) t = not_both _ i t.1
-  refused (EndsEarly r i) t = not_both _ i t.1
-  refused (AfterEnd r i) t = not_both _ i t.1
-  refused (TooDeep r i) t = not_both _ i t.1
-  refused (TooMany r i) t = not_both _ i t.1
-  refused SizeOutOfRange t = absurd t
-  refused WrongCount t = absurd t
-  refused ElementOutOfRange t = absurd t
-  refused NotATruthValue t = absurd t
-  refused BufferShort t = absurd t
-  refused Memory t = tt
+  refused (Reading m r i) t some = not_both _ i t.1
+  refused Memory t some = absurd (some refl)
+  refused SizeOutOfRange t some = absurd t
+  refused WrongCount t some = absurd t
+  refused ElementOutOfRange t some = absurd t
+  refused NotATruthValue t some = absurd t
+  refused BufferShort t some = absurd t
 
   meant : (e : Fault) → Tells s verdict e → Meant G bytes e
-  meant (NotAllowed r i) t = means _ i t.1
-  meant (EndsEarly r i) t = means _ i t.1
-  meant (AfterEnd r i) t = means _ i t.1
-  meant (TooDeep r i) t = means _ i t.1
-  meant (TooMany r i) t = means _ i t.1
-  meant SizeOutOfRange t = t
-  meant WrongCount t = t
-  meant ElementOutOfRange t = t
-  meant NotATruthValue t = t
-  meant BufferShort t = t
-  meant Memory t = tt
+  meant = mapped _ _ (λ m r i t. means (misreading m) i t.1)
 
   read_told : (r : Result X Fault) → MatchResult r (λ x. verdict ≡ reads (view x)) (Tells s verdict) → Read G Is verdict s view bytes r
   read_told (Ok x) t = record { told = t; exact = read_is (view x) t; means = tt }

@@ -4,22 +4,14 @@ use Rattle.std.proofs.lemmas.Bool.{lt-ltb, le-ltb}
 use Rattle.logic.specs.Reading.{Out, got, reads, closed}
 use Rattle.reader.specs.Answers.{Failed}
 use Rattle.reader.specs.Told.{Tells}
+use Rattle.fault.proofs.Mapped.{mapped}
 use Rattle.fault.specs.declared.fault.Source.{Source}
+use Rattle.fault.specs.declared.fault.Misreading.TheVariants.{AfterEnd}
 use Rattle.fault.specs.declared.fault.Fault.{Fault}
-use Rattle.fault.specs.declared.fault.Fault.TheVariants.{NotAllowed, EndsEarly, AfterEnd, TooDeep, TooMany, SizeOutOfRange, WrongCount, ElementOutOfRange, NotATruthValue, BufferShort, Memory}
+use Rattle.fault.specs.declared.fault.Fault.TheVariants.{Reading}
 
 failed_tells : {A : Type 0} (bytes : List ℕ) (s : Source) (e : Fault) (o : Out A) → Failed s e o → Tells s (closed bytes o) e
-failed_tells bytes s (NotAllowed r i) o h = (h.0, ap (closed bytes) h.1)
-failed_tells bytes s (EndsEarly r i) o h = (h.0, ap (closed bytes) h.1)
-failed_tells bytes s (AfterEnd r i) o h = (h.0, ap (closed bytes) h.1)
-failed_tells bytes s (TooDeep r i) o h = (h.0, ap (closed bytes) h.1)
-failed_tells bytes s (TooMany r i) o h = (h.0, ap (closed bytes) h.1)
-failed_tells bytes s SizeOutOfRange o h = h
-failed_tells bytes s WrongCount o h = h
-failed_tells bytes s ElementOutOfRange o h = h
-failed_tells bytes s NotATruthValue o h = h
-failed_tells bytes s BufferShort o h = h
-failed_tells bytes s Memory o h = tt
+failed_tells bytes s e o = mapped _ _ (λ m r i h. (h.0, ap (closed bytes) h.1)) e
 
 -- what the exit of a `?` answers
 pub told_err : {X : Type 0} (r : Result X Fault) (P : X → Type 0) (Q : Fault → Type 0) (x e : Fault) → r ≡ Err x → x ≡ e → Q e → MatchResult r P Q
@@ -35,7 +27,7 @@ module _ {A : Type 0} (F : List ℕ → ℕ → ℕ → Out A) (bytes held : Lis
       let end : ltb i (length bytes) ≡ false = ap (λ (z : List ℕ). ltb i (length z)) (sym same) ∙ le-ltb i (length held) l in
       ap (closed bytes) (sym begun_so ∙ e) ∙ rw end refl
 
-  pub told_after : (s q : Source) (x : A) (i m : ℕ) → q ≡ s → F held at n ≡ got x i m → i < length held → Tells s (closed bytes (F bytes 0 0)) (AfterEnd q i)
+  pub told_after : (s q : Source) (x : A) (i m : ℕ) → q ≡ s → F held at n ≡ got x i m → i < length held → Tells s (closed bytes (F bytes 0 0)) (Reading AfterEnd q i)
   told_after s q x i m of e l =
       let more : ltb i (length bytes) ≡ true = ap (λ (z : List ℕ). ltb i (length z)) (sym same) ∙ lt-ltb i (length held) l in
       (of, ap (closed bytes) (sym begun_so ∙ e) ∙ rw more refl)

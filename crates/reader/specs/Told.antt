@@ -1,56 +1,28 @@
 -- What reading a whole text owes. Assumes nothing.
 use Rattle.std.specs.Prelude.{◌≡◌, ℕ, List, IfErr, Result, MatchResult}
 use Rattle.logic.specs.Text.{Reads, ReadsTerm}
-use Rattle.logic.specs.Reading.{not_allowed, ends_early, after_end, too_deep, too_many, Verdict, reads, faulty, formula_of, term_of}
+use Rattle.logic.specs.Reading.{Verdict, reads, faulty, formula_of, term_of}
 use Rattle.logic.specs.Misreadings.{Grammar, Means, formulas, terms}
 use Rattle.formula.specs.View.{term, formula}
 use Rattle.formula.specs.declared.tree.Term.{Term}
 use Rattle.formula.specs.declared.tree.Formula.{Formula}
+use Rattle.fault.specs.Faults.{OfReading}
 use Rattle.fault.specs.declared.fault.Source.{Source}
 use Rattle.fault.specs.declared.fault.Fault.{Fault}
-use Rattle.fault.specs.declared.fault.Fault.TheVariants.{NotAllowed, EndsEarly, AfterEnd, TooDeep, TooMany, SizeOutOfRange, WrongCount, ElementOutOfRange, NotATruthValue, BufferShort, Memory}
+use Rattle.fault.specs.declared.fault.Fault.TheVariants.{Memory}
+use Rattle.reader.specs.Answers.{misreading}
 
 -- the fault is the one that the theory tells of the text; or memory ran out
 abbrev pub Tells : {A : Type 0} → Source → Verdict A → Fault → Type 0
-Tells s v (NotAllowed r i) = (r ≡ s) × (v ≡ faulty not_allowed i)
-Tells s v (EndsEarly r i) = (r ≡ s) × (v ≡ faulty ends_early i)
-Tells s v (AfterEnd r i) = (r ≡ s) × (v ≡ faulty after_end i)
-Tells s v (TooDeep r i) = (r ≡ s) × (v ≡ faulty too_deep i)
-Tells s v (TooMany r i) = (r ≡ s) × (v ≡ faulty too_many i)
-Tells s v SizeOutOfRange = ⊥
-Tells s v WrongCount = ⊥
-Tells s v ElementOutOfRange = ⊥
-Tells s v NotATruthValue = ⊥
-Tells s v BufferShort = ⊥
-Tells s v Memory = Unit {0}
+Tells s v = OfReading (λ m r i. (r ≡ s) × (v ≡ faulty (misreading m) i))
 
 -- the fault is no want of memory, so P
 abbrev pub Refused : Type 0 → Fault → Type 0
-Refused P (NotAllowed s i) = P
-Refused P (EndsEarly s i) = P
-Refused P (AfterEnd s i) = P
-Refused P (TooDeep s i) = P
-Refused P (TooMany s i) = P
-Refused P SizeOutOfRange = P
-Refused P WrongCount = P
-Refused P ElementOutOfRange = P
-Refused P NotATruthValue = P
-Refused P BufferShort = P
-Refused P Memory = Unit {0}
+Refused P e = (e ≡ Memory → ⊥) → P
 
 -- what a fault of reading says of the bytes
 abbrev pub Meant : {A : Type 0} → Grammar A → List ℕ → Fault → Type 0
-Meant G bytes (NotAllowed s i) = Means G bytes not_allowed i
-Meant G bytes (EndsEarly s i) = Means G bytes ends_early i
-Meant G bytes (AfterEnd s i) = Means G bytes after_end i
-Meant G bytes (TooDeep s i) = Means G bytes too_deep i
-Meant G bytes (TooMany s i) = Means G bytes too_many i
-Meant G bytes SizeOutOfRange = ⊥
-Meant G bytes WrongCount = ⊥
-Meant G bytes ElementOutOfRange = ⊥
-Meant G bytes NotATruthValue = ⊥
-Meant G bytes BufferShort = ⊥
-Meant G bytes Memory = Unit {0}
+Meant G bytes = OfReading (λ m s i. Means G bytes (misreading m) i)
 
 -- Of trees of some kind: Is says which tree the bytes are the text of, within the limits; the verdict is what the theory reads.
 pub record Read {X A : Type 0} (G : Grammar A) (Is : A → Type 0) (verdict : Verdict A) (s : Source) (view : X → A) (bytes : List ℕ) (r : Result X Fault) : Type 0 where

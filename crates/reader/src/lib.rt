@@ -10,9 +10,10 @@ ghost use Rattle.reader.specs.Heads.{digit_of, head_of, opening_of};
 ghost use Rattle.reader.specs.Answers.{same};
 ghost use Rattle.reader.specs.Steps.{Step};
 ghost use Rattle.reader.specs.Told.{FormulaRead, TermRead};
-ghost use Rattle.fault.specs.declared.fault.Fault.TheVariants.{EndsEarly, AfterEnd};
+ghost use Rattle.fault.specs.declared.fault.Fault.TheVariants.{Reading};
+ghost use Rattle.fault.specs.declared.fault.Misreading.TheVariants.{EndsEarly, AfterEnd};
 
-use fault::{Fault, Source};
+use fault::{Fault, Misreading, Source};
 use formula::{Formula, Term};
 use sign::{Class, Connective, Name, Quantifier};
 use std::alloc::Global;
@@ -27,8 +28,8 @@ pub const MOST_LEVELS: usize = 24;
 pub fn read_formula(heap: Global, bytes: &[u8]) -> Result<Formula, Fault>
     ensures { FormulaRead bytes.now result }
 {
-    let mut reader = Reader::new(bytes, Source::Formula);
-    let formula = reader.formula(heap, MOST_LEVELS)?;
+    let mut reader = Reader::new(heap, bytes, Source::Formula);
+    let formula = reader.formula(MOST_LEVELS)?;
     reader.end()?;
     Ok(formula)
 }
@@ -37,8 +38,8 @@ pub fn read_formula(heap: Global, bytes: &[u8]) -> Result<Formula, Fault>
 pub fn read_term(heap: Global, bytes: &[u8]) -> Result<Term, Fault>
     ensures { TermRead bytes.now result }
 {
-    let mut reader = Reader::new(bytes, Source::Term);
-    let term = reader.term(heap, MOST_LEVELS)?;
+    let mut reader = Reader::new(heap, bytes, Source::Term);
+    let term = reader.term(MOST_LEVELS)?;
     reader.end()?;
     Ok(term)
 }
@@ -66,6 +67,7 @@ enum Opening {
 // The bytes, which text they are, the place of the next one, and how many parts began before it.
 #[derive(Drop)]
 struct Reader<'a> {
+    heap: Global,
     bytes: &'a [u8],
     source: Source,
     at: usize,
@@ -73,10 +75,11 @@ struct Reader<'a> {
 }
 
 impl<'a> Reader<'a> {
-    fn new(bytes: &'a [u8], source: Source) -> Reader<'a>
+    fn new(heap: Global, bytes: &'a [u8], source: Source) -> Reader<'a>
         ensures { (result.bytes.now ≡ bytes.now) × (result.source ≡ source) × (result.at ≡ 0) × (result.parts ≡ 0) }
     {
         Reader {
+            heap,
             bytes,
             source,
             at: 0,
@@ -86,26 +89,29 @@ impl<'a> Reader<'a> {
 }
 
 impl Reader<'_> {
+    // The fault that this is wrong with the next byte.
+    fn fault(&self, what: Misreading) -> Fault
+        ensures { result ≡ Reading what self.now.source self.now.at }
+    {
+        Fault::Reading(what, self.source, self.at)
+    }
+
     // The next byte.
     fn byte(&self) -> Result<u8, Fault>
-        ensures { MatchResult result (λ b. (self.now.at < length self.now.bytes.now) × (b ≡ slice_index self.now.bytes.now self.now.at)) (λ e. (length self.now.bytes.now ≤ self.now.at) × (e ≡ EndsEarly self.now.source self.now.at)) }
+        ensures { MatchResult result (λ b. (self.now.at < length self.now.bytes.now) × (b ≡ slice_index self.now.bytes.now self.now.at)) (λ e. (length self.now.bytes.now ≤ self.now.at) × (e ≡ Reading EndsEarly self.now.source self.now.at)) }
     {
-        if self.at < self.bytes.len() {
-            Ok(self.bytes[self.at])
-        } else {
-            Err(Fault::EndsEarly(self.source, self.at))
-        }
+        let byte = self.bytes.get(self.at).copied();
+        byte.ok_or(self.fault(Misreading::EndsEarly))
     }
 
     // Nothing stands behind what was read.
     fn end(&self) -> Result<(), Fault>
-        ensures { MatchResult result (λ _. length self.now.bytes.now ≤ self.now.at) (λ e. (self.now.at < length self.now.bytes.now) × (e ≡ AfterEnd self.now.source self.now.at)) }
+        ensures { MatchResult result (λ _. length self.now.bytes.now ≤ self.now.at) (λ e. (self.now.at < length self.now.bytes.now) × (e ≡ Reading AfterEnd self.now.source self.now.at)) }
     {
         if self.at < self.bytes.len() {
-            Err(Fault::AfterEnd(self.source, self.at))
-        } else {
-            Ok(())
+            return Err(self.fault(Misreading::AfterEnd));
         }
+        Ok(())
     }
 
     // Takes a digit.
@@ -114,7 +120,7 @@ impl Reader<'_> {
     {
         let byte = self.byte()?;
         if !Class::Digit.has(byte) {
-            return Err(Fault::NotAllowed(self.source, self.at));
+            return Err(self.fault(Misreading::NotAllowed));
         }
         self.at += 1;
         Ok(Name { digit: byte - b'0' })
@@ -125,7 +131,7 @@ impl Reader<'_> {
         ensures { Step same (reading.sign (class wanted)) self.old self.new result }
     {
         if !wanted.has(self.byte()?) {
-            return Err(Fault::NotAllowed(self.source, self.at));
+            return Err(self.fault(Misreading::NotAllowed));
         }
         self.at += 1;
         Ok(())
@@ -138,10 +144,10 @@ impl Reader<'_> {
         ensures read { Step same (λ _. reading.part 200 tt left) self.old self.new result }
     {
         if left == 0 {
-            return Err(Fault::TooDeep(self.source, self.at));
+            return Err(self.fault(Misreading::TooDeep));
         }
         if self.parts >= MOST_PARTS {
-            return Err(Fault::TooMany(self.source, self.at));
+            return Err(self.fault(Misreading::TooMany));
         }
         self.at += 1;
         self.parts += 1;
@@ -158,7 +164,7 @@ impl Reader<'_> {
             'c' => Head::Constant,
             'f' => Head::Apply1,
             'g' => Head::Apply2,
-            _ => return Err(Fault::NotAllowed(self.source, self.at)),
+            _ => return Err(self.fault(Misreading::NotAllowed)),
         };
         self.part(left)?;
         Ok(head)
@@ -177,7 +183,7 @@ impl Reader<'_> {
             '(' => Opening::Bracket,
             'A' => Opening::Quantified(Quantifier::Every),
             'E' => Opening::Quantified(Quantifier::Some),
-            _ => return Err(Fault::NotAllowed(self.source, self.at)),
+            _ => return Err(self.fault(Misreading::NotAllowed)),
         };
         self.part(left)?;
         Ok(opening)
@@ -191,7 +197,7 @@ impl Reader<'_> {
             '&' => Connective::And,
             '|' => Connective::Or,
             '>' => Connective::Implies,
-            _ => return Err(Fault::NotAllowed(self.source, self.at)),
+            _ => return Err(self.fault(Misreading::NotAllowed)),
         };
         self.at += 1;
         Ok(connective)
@@ -202,15 +208,15 @@ impl Reader<'_> {
         ensures { Step digit_of reading.bound self.old self.new result }
     {
         let 'x' = self.byte()? as char else {
-            return Err(Fault::NotAllowed(self.source, self.at));
+            return Err(self.fault(Misreading::NotAllowed));
         };
         self.at += 1;
         self.name()
     }
 
     // Takes a term of at most `left` levels.
-    #[cycle(argument_arguments_term)]
-    fn term(&mut self, heap: Global, left: usize) -> Result<Term, Fault>
+    #[cycle(terms)]
+    fn term(&mut self, left: usize) -> Result<Term, Fault>
         ensures { Step term (reading.read_term 200 left) self.old self.new result }
     {
         let head = self.head(left)?;
@@ -219,85 +225,85 @@ impl Reader<'_> {
             Head::Variable => Ok(Term::Variable(name)),
             Head::Constant => Ok(Term::Constant(name)),
             Head::Apply1 => {
-                let s = self.argument(heap, left - 1)?;
-                Ok(Term::Apply1(name, Box::new(heap, s)?))
+                let s = self.argument(left - 1)?;
+                Ok(Term::Apply1(name, Box::new(self.heap, s)?))
             }
             Head::Apply2 => {
-                let (s, t) = self.arguments(heap, left - 1)?;
-                Ok(Term::Apply2(name, Box::new(heap, s)?, Box::new(heap, t)?))
+                let (s, t) = self.arguments(left - 1)?;
+                Ok(Term::Apply2(name, Box::new(self.heap, s)?, Box::new(self.heap, t)?))
             }
         }
     }
 
     // Takes a term of at most `left` levels in brackets.
-    #[cycle(argument_arguments_term)]
-    fn argument(&mut self, heap: Global, left: usize) -> Result<Term, Fault>
+    #[cycle(terms)]
+    fn argument(&mut self, left: usize) -> Result<Term, Fault>
         ensures { Step term (λ bytes. reading.argument (reading.read_term 200 left bytes) bytes) self.old self.new result }
     {
         self.sign(Class::Open)?;
-        let s = self.term(heap, left)?;
+        let s = self.term(left)?;
         self.sign(Class::Close)?;
         Ok(s)
     }
 
     // Takes two terms of at most `left` levels in brackets.
-    #[cycle(argument_arguments_term)]
-    fn arguments(&mut self, heap: Global, left: usize) -> Result<(Term, Term), Fault>
+    #[cycle(terms)]
+    fn arguments(&mut self, left: usize) -> Result<(Term, Term), Fault>
         ensures { Step pair (λ bytes. reading.arguments (reading.read_term 200 left bytes) bytes) self.old self.new result }
     {
         self.sign(Class::Open)?;
-        let s = self.term(heap, left)?;
+        let s = self.term(left)?;
         self.sign(Class::Comma)?;
-        let t = self.term(heap, left)?;
+        let t = self.term(left)?;
         self.sign(Class::Close)?;
         Ok((s, t))
     }
 
     // Takes a formula of at most `left` levels.
-    #[cycle(binary_formula_quantified)]
-    fn formula(&mut self, heap: Global, left: usize) -> Result<Formula, Fault>
+    #[cycle(formulas)]
+    fn formula(&mut self, left: usize) -> Result<Formula, Fault>
         ensures { Step formula (reading.read_formula 200 left) self.old self.new result }
     {
         match self.opening(left)? {
             Opening::Predicate0 => Ok(Formula::Predicate0(self.name()?)),
             Opening::Predicate1 => {
                 let name = self.name()?;
-                let s = self.argument(heap, left - 1)?;
+                let s = self.argument(left - 1)?;
                 Ok(Formula::Predicate1(name, s))
             }
             Opening::Predicate2 => {
                 let name = self.name()?;
-                let (s, t) = self.arguments(heap, left - 1)?;
+                let (s, t) = self.arguments(left - 1)?;
                 Ok(Formula::Predicate2(name, s, t))
             }
             Opening::Not => {
-                let a = self.formula(heap, left - 1)?;
-                Ok(Formula::Not(Box::new(heap, a)?))
+                let a = self.formula(left - 1)?;
+                Ok(Formula::Not(Box::new(self.heap, a)?))
             }
-            Opening::Bracket => self.binary(heap, left - 1),
-            Opening::Quantified(quantifier) => self.quantified(heap, left - 1, quantifier),
+            Opening::Bracket => self.binary(left - 1),
+            Opening::Quantified(quantifier) => self.quantified(left - 1, quantifier),
         }
     }
 
     // Takes what stands after the bracket that opens a formula.
-    #[cycle(binary_formula_quantified)]
-    fn binary(&mut self, heap: Global, left: usize) -> Result<Formula, Fault>
+    #[cycle(formulas)]
+    fn binary(&mut self, left: usize) -> Result<Formula, Fault>
         ensures { Step formula (λ bytes. reading.joined (reading.read_formula 200 left bytes) bytes) self.old self.new result }
     {
-        let a = self.formula(heap, left)?;
+        let a = self.formula(left)?;
         let connective = self.connective()?;
-        let b = self.formula(heap, left)?;
+        let b = self.formula(left)?;
         self.sign(Class::Close)?;
-        Ok(Formula::Binary(connective, Box::new(heap, a)?, Box::new(heap, b)?))
+        Ok(Formula::Binary(connective, Box::new(self.heap, a)?, Box::new(self.heap, b)?))
     }
 
     // Takes what stands after the letter of a quantifier.
-    #[cycle(binary_formula_quantified)]
-    fn quantified(&mut self, heap: Global, left: usize, which: Quantifier) -> Result<Formula, Fault>
+    #[cycle(formulas)]
+    fn quantified(&mut self, left: usize, which: Quantifier) -> Result<Formula, Fault>
         ensures { Step formula (λ bytes. reading.generalised (reading.read_formula 200 left bytes) (quantifier which) bytes) self.old self.new result }
     {
         let x = self.bound()?;
-        let a = self.formula(heap, left)?;
-        Ok(Formula::Quantified(which, x, Box::new(heap, a)?))
+        let a = self.formula(left)?;
+        Ok(Formula::Quantified(which, x, Box::new(self.heap, a)?))
     }
 }

@@ -1,6 +1,6 @@
 use Rattle.std.proofs.Common.{rules}
 use Rattle.logic.proofs.Steps.{unroll}
-use Rattle.reader.proofs.Reader.+argument_arguments_term.Goals as goal
+use Rattle.reader.proofs.Reader.+terms.Goals as goal
 
 pub term-returns-in_err-head : goal.term-returns-in_err-head
 term-returns-in_err-head t c = search (rules, unroll)

@@ -1,5 +1,5 @@
 use Rattle.std.proofs.Common.{◌+◌, ◌*◌}
-use Rattle.reader.proofs.Reader.+binary_formula_quantified.Given as goal
+use Rattle.reader.proofs.Reader.+formulas.Given as goal
 
 abbrev pub decreases-binary : goal.decreases-binary
 decreases-binary l = 2 * l.left + 1

@@ -1,6 +1,6 @@
 use Rattle.std.proofs.Common.{rules}
 use Rattle.logic.proofs.Steps.{unroll_formula}
-use Rattle.reader.proofs.Reader.+binary_formula_quantified.Goals as goal
+use Rattle.reader.proofs.Reader.+formulas.Goals as goal
 
 pub formula-returns-in_err-opening : goal.formula-returns-in_err-opening
 formula-returns-in_err-opening t c = search (rules, unroll_formula)

@@ -1,5 +1,5 @@
 use Rattle.std.proofs.Common.{◌+◌, ◌*◌}
-use Rattle.reader.proofs.Reader.+argument_arguments_term.Given as goal
+use Rattle.reader.proofs.Reader.+terms.Given as goal
 
 abbrev pub decreases-argument : goal.decreases-argument
 decreases-argument l = 2 * l.left + 1
