@@ -216,6 +216,7 @@ impl Reader<'_> {
 
     // Takes a term of at most `left` levels.
     #[cycle(terms)]
+    #[tactic(auto, using(logic::proofs::Steps::unroll))]
     fn term(&mut self, left: usize) -> Result<Term, Fault>
         ensures { Step term (reading.read_term 200 left) self.old self.new result }
     {
@@ -261,6 +262,7 @@ impl Reader<'_> {
 
     // Takes a formula of at most `left` levels.
     #[cycle(formulas)]
+    #[tactic(auto, using(logic::proofs::Steps::unroll_formula))]
     fn formula(&mut self, left: usize) -> Result<Formula, Fault>
         ensures { Step formula (reading.read_formula 200 left) self.old self.new result }
     {
