@@ -44,6 +44,8 @@ pub fn read_term(heap: Global, bytes: &[u8]) -> Result<Term, Fault>
     Ok(term)
 }
 
+// The clauses of the steps below have the number of `MOST_PARTS` itself: with its name the search does not close.
+
 // What a term begins with.
 #[derive(Clone, Copy)]
 enum Head {
@@ -64,7 +66,8 @@ enum Opening {
     Quantified(Quantifier),
 }
 
-// The bytes, which text they are, the place of the next one, and how many parts began before it.
+// Where the memory for a tree comes from; the bytes, which text they are, and the place of the next one; how many parts began
+// before it.
 #[derive(Drop)]
 struct Reader<'a> {
     heap: Global,
@@ -75,6 +78,7 @@ struct Reader<'a> {
 }
 
 impl<'a> Reader<'a> {
+    // At the first byte, with no part yet.
     fn new(heap: Global, bytes: &'a [u8], source: Source) -> Reader<'a>
         ensures { (result.bytes.now ≡ bytes.now) × (result.source ≡ source) × (result.at ≡ 0) × (result.parts ≡ 0) }
     {
