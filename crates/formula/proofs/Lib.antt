@@ -1,2 +1,3 @@
 pub mod Marks
+pub mod Sent
 pub mod Shown

@@ -7,6 +7,8 @@
 
 mod display;
 mod measures;
+mod text;
 mod tree;
 
+pub use text::{Sink, Spell};
 pub use tree::{Formula, Term};
