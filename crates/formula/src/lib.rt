@@ -2,6 +2,7 @@
 //
 //   tree       terms and formulas
 //   measures   parts, levels and free variables of a tree
+//   text       the text of a tree, sent byte by byte
 //   display    trees as text that is formatted
 #![tactic(auto)]
 

@@ -1,11 +1,11 @@
 // The text of a tree, sent byte by byte.
-ghost use Rattle.std.specs.Prelude.{ℕ, ◌<◌, List, [], ◌∷◌};
+ghost use Rattle.std.specs.Prelude.{ℕ, List, [], ◌∷◌};
 ghost use Rattle.std.specs.List.{FoldsTo};
 ghost use Rattle.std.specs.Str.{IsAscii};
 ghost use Rattle.logic.specs.Signs.{digit as digit_of};
 ghost use Rattle.logic.specs.Text.{term_text, text as formula_text, enclosed, paired};
 ghost use Rattle.formula.specs.View.{term, formula};
-ghost use Rattle.formula.specs.Ascii.{term_ascii, formula_ascii};
+ghost use Rattle.formula.specs.TextLemmas.{term_ascii, formula_ascii};
 
 use crate::tree::{Formula, Term};
 use sign::Name;
@@ -29,14 +29,6 @@ pub trait Spell {
         ensures { FoldsTo S.put_gives sink.old (text self.now) sink.new };
 
     ghost ascii: { (x : Self) → IsAscii (text x) };
-}
-
-// Sends the name with its letter.
-fn spell_name<S: Sink>(name: Name, letter: u8, sink: &mut S)
-    ensures { FoldsTo S.put_gives sink.old (letter ∷ digit_of name.digit ∷ []) sink.new }
-{
-    sink.put(letter);
-    sink.put(b'0' + name.digit);
 }
 
 impl Spell for Term {
@@ -119,4 +111,12 @@ impl Spell for Formula {
             }
         }
     }
+}
+
+// Sends the name with its letter.
+fn spell_name<S: Sink>(name: Name, letter: u8, sink: &mut S)
+    ensures { FoldsTo S.put_gives sink.old (letter ∷ digit_of name.digit ∷ []) sink.new }
+{
+    sink.put(letter);
+    sink.put(b'0' + name.digit);
 }

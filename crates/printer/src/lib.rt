@@ -42,7 +42,7 @@ pub fn text_len<T: Spell>(tree: &T) -> usize
 
 /// Puts the text at the front of `out` and answers how many bytes it has. Where `out` is too short, nothing is written.
 pub fn print<T: ReadBack>(tree: &T, out: &mut [u8]) -> Result<usize, Fault>
-    ensures printed { Printed (T.Spell.text tree.now) out.old out.new result }
+    ensures printed { Printed (T.text tree.now) out.old out.new result }
     ensures back { IfOk result (λ n. T.back tree.now (take n out.new)) }
 {
     match count(tree) {
