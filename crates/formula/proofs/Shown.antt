@@ -1,5 +1,5 @@
 -- A text that a formatter took byte by byte is written. Assumes nothing.
-use Rattle.std.proofs.Common.{◌≡◌, ℕ, suc, List, [], ◌∷◌, IsOk, refl, sym, ap, subst, ◌∙◌}
+use Rattle.std.proofs.Common.{◌≡◌, ℕ, suc, List, [], ◌∷◌, IsOk, refl, subst, ◌∙◌}
 use Rattle.std.specs.Fmt.{WritesOnOk}
 use Rattle.std.specs.List.{FoldsTo}
 use Rattle.std.specs.Str.{IsAscii}

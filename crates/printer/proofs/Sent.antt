@@ -1,5 +1,5 @@
 -- What the printer's sinks did with a whole text. Assumes nothing.
-use Rattle.std.proofs.Common.{◌≡◌, ℕ, ◌+◌, ◌<◌, ◌≤◌, List, [], ◌∷◌, ◌++◌, length, refl, sym, ap, subst, ◌∙◌, append_assoc, append-nil, arith, length-set, set}
+use Rattle.std.proofs.Common.{◌≡◌, ℕ, ◌+◌, ◌<◌, ◌≤◌, List, [], ◌∷◌, ◌++◌, length, refl, ap, subst, ◌∙◌, append_assoc, append-nil, arith, length-set, set}
 use Rattle.std.specs.List.{FoldsTo}
 use Rattle.printer.specs.declared.sinks.Count.{Count}
 use Rattle.printer.specs.declared.sinks.Buffer.{Buffer}

@@ -1,5 +1,5 @@
 -- What the printer's sinks do with a byte. Assumes nothing.
-use Rattle.std.specs.Prelude.{◌≡◌, ℕ, ◌+◌, ◌^◌, ◌<◌, List, length, set}
+use Rattle.std.specs.Prelude.{◌≡◌, ℕ, ◌+◌, ◌^◌, ◌<◌, length, set}
 use Rattle.std.specs.Option.{SomeIff}
 use Rattle.printer.specs.declared.sinks.Count.{Count}
 use Rattle.printer.specs.declared.sinks.Buffer.{Buffer}

@@ -1,8 +1,7 @@
-use Rattle.std.proofs.Common.{◌≡◌, [], ◌∷◌, ◌++◌, refl, sym, ap, subst}
+use Rattle.std.proofs.Common.{◌≡◌, [], ◌∷◌, ◌++◌, refl, ap, subst}
 use Rattle.std.specs.List.{FoldsTo}
-use Rattle.logic.specs.Signs.{joint, 'open', 'close'}
+use Rattle.logic.specs.Signs.{'open', 'close'}
 use Rattle.logic.specs.Text.{text}
-use Rattle.sign.specs.View.{connective}
 use Rattle.formula.specs.View.{formula}
 use Rattle.formula.proofs.Sent.{then_byte}
 use Rattle.formula.proofs.text.FormulaSpell.+spell.Goals as goal
