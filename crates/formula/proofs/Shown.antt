@@ -1,16 +1,32 @@
--- Texts that are formatted one after the other. Assumes nothing.
-use Rattle.std.proofs.Common.{◌≡◌, ℕ, List, ◌++◌, is_ok, Ok, Result, ap}
-use Rattle.std.specs.declared.fmt.Error.{Error}
-use Rattle.std.specs.declared.fmt.Formatter.{Formatter}
+-- A text that a formatter took byte by byte is written. Assumes nothing.
+use Rattle.std.proofs.Common.{◌≡◌, ℕ, suc, List, [], ◌∷◌, IsOk, refl, subst, ◌∙◌}
 use Rattle.std.specs.Fmt.{WritesOnOk}
-use Rattle.std.proofs.Output.{writes_on_IsOk-append, has_written_of_eq}
+use Rattle.std.specs.List.{FoldsTo}
+use Rattle.std.specs.Str.{IsAscii}
+use Rattle.std.proofs.Output.{writes_in_calls_nil, has_written_append}
+use Rattle.formula.specs.declared.display.Writer.{Writer}
+use Rattle.formula.specs.Display.{Writes}
 
-module _ {W : Type 0} {took : W → List ℕ → W → Type 0} where
-  -- b comes after a, which went well, and s is the last result
-  pub next : {f g h : Formatter W} {r : Result (Unit {0}) Error} {a b : List ℕ} {v : Unit {0}} (s : Result (Unit {0}) Error)
-      → r ≡ Ok v → WritesOnOk took f r a g → WritesOnOk took g s b h → WritesOnOk took f s (a ++ b) h
-  next {f} {g} {h} {r} {a} {b} {v} s was p q = writes_on_IsOk-append took f g h r s a b (λ _. ap is_ok was) p q
+module _ {W : Type 0} (took : W → List ℕ → W → Type 0) where
+  -- t is s after all bytes
+  pub record Written (s : Writer W) (bytes : List ℕ) (t : Writer W) : Type 0 where
+    pub formatter : t.f.ghost_name ≡ s.f.ghost_name
+    pub first : IsOk t.result → IsOk s.result
+    pub writes : WritesOnOk took s.f.now t.result bytes t.f.now
 
-  -- the same text, said otherwise
-  pub shows : {f g : Formatter W} {a b : List ℕ} (r : Result (Unit {0}) Error) → a ≡ b → WritesOnOk took f r a g → WritesOnOk took f r b g
-  shows {f} {g} {a} {b} r e p plain ok = has_written_of_eq took f a b g e (p plain ok)
+  blank : (s : Writer W) → Written s [] s
+  blank s = record { formatter = refl; first = λ ok. ok; writes = λ plain ok. record { wrote = writes_in_calls_nil took s.f.now.writer; plain = plain } }
+
+  pub written : (bytes : List ℕ) (s t : Writer W) → IsAscii bytes → FoldsTo (Writes took) s bytes t → Written s bytes t
+  written [] s t ascii p = subst (Written s []) p (blank s)
+  written (b ∷ bytes) s t ascii p =
+      let j = p.0 in
+      let one = p.1 in
+      let rest = written bytes j t (λ i. ascii (suc i)) p.2 in
+      record {
+        formatter = rest.formatter ∙ one.formatter;
+        first = λ ok. one.first (rest.first ok);
+        writes = λ plain ok.
+            let begun = one.writes (ascii 0) (rest.first ok) plain (rest.first ok) in
+            has_written_append took s.f.now (b ∷ []) j.f.now bytes t.f.now begun (rest.writes begun.plain ok);
+      }

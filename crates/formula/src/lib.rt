@@ -2,11 +2,14 @@
 //
 //   tree       terms and formulas
 //   measures   parts, levels and free variables of a tree
+//   text       the text of a tree, sent byte by byte
 //   display    trees as text that is formatted
 #![tactic(auto)]
 
 mod display;
 mod measures;
+mod text;
 mod tree;
 
+pub use text::{Sink, Spell};
 pub use tree::{Formula, Term};

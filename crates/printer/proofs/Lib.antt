@@ -1,5 +1,2 @@
 pub mod Fronts
-pub mod Bracketed
-pub mod Widths
-pub mod Printed
-pub mod Back
+pub mod Sent

@@ -1,2 +1,3 @@
-pub mod Widths
 pub mod Printed
+pub mod Back
+pub mod Sinks

@@ -1,6 +1,6 @@
 // Each text with what reading it answers.
 use fault::{Fault, Source};
-use printer::{formula_len, print_formula};
+use printer::{print, text_len};
 use reader::{read_formula, read_term};
 use std::test::Fail;
 
@@ -101,17 +101,17 @@ fn free(rt: HostRuntime) -> Result<(), Fail> {
 fn printed(rt: HostRuntime) -> Result<(), Fail> {
     let text = "Ax0(r0(x0,g1(c2,x3))>Ex3-q4(f5(x3)))";
     let formula = read_formula(rt.alloc(), text.as_bytes())?;
-    assert_eq!(rt; formula_len(&formula), 36);
+    assert_eq!(rt; text_len(&formula), 36);
     let mut short = [7u8; 35];
     assert_eq!(rt;
-        print_formula(&formula, &mut short),
+        print(&formula, &mut short),
         Err(Fault::BufferShort)
     );
     assert!(rt; short == [7u8; 35]);
     let mut exact = [7u8; 36];
-    assert_eq!(rt; print_formula(&formula, &mut exact), Ok(36));
+    assert_eq!(rt; print(&formula, &mut exact), Ok(36));
     let mut out = [7u8; 38];
-    assert_eq!(rt; print_formula(&formula, &mut out), Ok(36));
+    assert_eq!(rt; print(&formula, &mut out), Ok(36));
     assert!(rt; &out[0..36] == text.as_bytes());
     assert!(rt; out[36] == 7 && out[37] == 7);
     Ok(())
