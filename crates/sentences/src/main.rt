@@ -15,6 +15,7 @@ mod report;
 mod sheet;
 mod window;
 
+use fault::Fault;
 use judgement::judge;
 use report::Report;
 use sheet::Sheet;
@@ -50,10 +51,10 @@ fn take(rt: &HostRuntime, sheet: &mut Sheet, byte: u8) -> anyhow::Result<()> {
     Ok(())
 }
 
-// Judges the sentence that was taken, counts it, and says so.
+// Judges the sentence that was taken, counts it, and says so. Want of memory ends the program in the words of that fault.
 fn tell(rt: &HostRuntime, sheet: &mut Sheet) -> anyhow::Result<()> {
     let sentence = sheet.sentence.as_slice();
-    let judgement = judge(rt.alloc(), sentence)?;
+    let judgement = judge(rt.alloc(), sentence).map_err(Fault::from)?;
     sheet.counts.add(judgement);
     let number = sheet.counts.sentences;
     let report = Report {
