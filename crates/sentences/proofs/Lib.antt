@@ -1,1 +1,2 @@
+pub mod Excerpts
 pub mod Lines

@@ -9,7 +9,7 @@ use Rattle.logic.proofs.Long.{told_early}
 use Rattle.reader.specs.Told.{Tells, Refused, Meant}
 use Rattle.fault.specs.declared.fault.Source.{Source}
 use Rattle.fault.specs.declared.fault.Fault.{Fault}
-use Rattle.fault.specs.declared.fault.Fault.TheVariants.{NotAllowed, EndsEarly, AfterEnd, TooDeep, TooMany, SizeOutOfRange, WrongCount, ElementOutOfRange, NotATruthValue, BufferShort, Memory}
+use Rattle.fault.specs.declared.fault.Fault.TheVariants.{NotAllowed, EndsEarly, AfterEnd, TooDeep, TooMany, Memory}
 use Rattle.sentences.specs.Judged.{Faulty}
 
 held_fits : (bytes line : List ℕ) → take (length bytes) line ≡ bytes → length bytes ≤ length line
@@ -21,15 +21,18 @@ line_none bytes line long e a r = omega (arith, held_fits bytes line e, ap lengt
 line_means : (bytes : List ℕ) (k : Misreading) (i : ℕ) → formula_of bytes ≡ faulty k i → (line : List ℕ) → longest < length bytes → take (length bytes) line ≡ bytes → Means formulas line k i
 line_means bytes k i t line long e = told_early.told line (length bytes) long (held_fits bytes line e) k i (ap (λ (z : List ℕ). formula_of z) e ∙ t)
 
+line_meant : (bytes : List ℕ) (e : Fault) → Tells Source.Formula (formula_of bytes) e → (line : List ℕ) → longest < length bytes → take (length bytes) line ≡ bytes → Meant formulas line e
+line_meant bytes (NotAllowed s i) t = line_means bytes _ i t.1
+line_meant bytes (EndsEarly s i) t = line_means bytes _ i t.1
+line_meant bytes (AfterEnd s i) t = line_means bytes _ i t.1
+line_meant bytes (TooDeep s i) t = line_means bytes _ i t.1
+line_meant bytes (TooMany s i) t = line_means bytes _ i t.1
+line_meant bytes Memory t = λ line long same. tt
+line_meant bytes e t = absurd t
+
+refused : {P : Type 0} (e : Fault) → (e ≡ Memory → ⊥) → Refused P e → P
+refused Memory n r = absurd (n refl)
+refused e n r = r
+
 pub judged : (bytes : List ℕ) (e : Fault) → (e ≡ Memory → ⊥) → Tells Source.Formula (formula_of bytes) e → Refused ((a : pure.Formula) → Reads bytes a → ⊥) e → Meant formulas bytes e → Faulty bytes e
-judged bytes (NotAllowed s i) n t r m = record { told = t; no_want = n; none = r; means = m; line_none = line_none bytes; line_means = line_means bytes _ i t.1 }
-judged bytes (EndsEarly s i) n t r m = record { told = t; no_want = n; none = r; means = m; line_none = line_none bytes; line_means = line_means bytes _ i t.1 }
-judged bytes (AfterEnd s i) n t r m = record { told = t; no_want = n; none = r; means = m; line_none = line_none bytes; line_means = line_means bytes _ i t.1 }
-judged bytes (TooDeep s i) n t r m = record { told = t; no_want = n; none = r; means = m; line_none = line_none bytes; line_means = line_means bytes _ i t.1 }
-judged bytes (TooMany s i) n t r m = record { told = t; no_want = n; none = r; means = m; line_none = line_none bytes; line_means = line_means bytes _ i t.1 }
-judged bytes SizeOutOfRange n t r m = absurd t
-judged bytes WrongCount n t r m = absurd t
-judged bytes ElementOutOfRange n t r m = absurd t
-judged bytes NotATruthValue n t r m = absurd t
-judged bytes BufferShort n t r m = absurd t
-judged bytes Memory n t r m = absurd (n refl)
+judged bytes e n t r m = record { told = t; no_want = n; none = refused e n r; means = m; line_none = line_none bytes; line_means = line_meant bytes e t }

@@ -1,5 +1,5 @@
 -- What a judgement says of the bytes of a sentence. Assumes nothing.
-use Rattle.std.specs.Prelude.{◌≡◌, ℕ, ◌<◌, false, List, length, take, slice_index_or}
+use Rattle.std.specs.Prelude.{◌≡◌, ℕ, ◌<◌, false, List, length, take, slice_index_or, Result, MatchResult}
 use Rattle.logic.specs.Syntax as pure
 use Rattle.logic.specs.Syntax.{free}
 use Rattle.logic.specs.Text.{names, parts, levels, Reads}
@@ -11,8 +11,6 @@ use Rattle.fault.specs.declared.fault.Source.{Source}
 use Rattle.fault.specs.declared.fault.Fault.{Fault}
 use Rattle.fault.specs.declared.fault.Fault.TheVariants.{Memory}
 use Rattle.sentences.specs.declared.judgement.Measures.{Measures}
-use Rattle.sentences.specs.declared.judgement.Judgement.{Judgement}
-use Rattle.sentences.specs.declared.judgement.Judgement.TheVariants.{Formula, Refused}
 
 -- the bytes are the text of a formula with these measures
 pub record Measured (bytes : List ℕ) (m : Measures) : Type 0 where
@@ -32,6 +30,5 @@ pub record Faulty (bytes : List ℕ) (e : Fault) : Type 0 where
   pub line_none : (line : List ℕ) → longest < length bytes → take (length bytes) line ≡ bytes → (a : pure.Formula) → Reads line a → ⊥
   pub line_means : (line : List ℕ) → longest < length bytes → take (length bytes) line ≡ bytes → Meant formulas line e
 
-abbrev pub Judged : List ℕ → Judgement → Type 0
-Judged bytes (Formula m) = Measured bytes m
-Judged bytes (Refused e) = Faulty bytes e
+abbrev pub Judged : List ℕ → Result Measures Fault → Type 0
+Judged bytes j = MatchResult j (Measured bytes) (Faulty bytes)

@@ -1,10 +1,16 @@
 -- The bytes of a sentence that are shown around a place. Assumes nothing.
-use Rattle.std.specs.Prelude.{◌≡◌, ℕ, ◌+◌, ◌-◌, ◌≤◌, min, cond, ◌&&◌, nat_le}
+use Rattle.std.specs.Prelude.{◌≡◌, ℕ, ◌+◌, ◌-◌, ◌≤◌, min, if◌then◌else◌, ◌&&◌, nat_le}
+
+-- half of the width before the place, but no further than leaves a whole width
+abbrev pub window_start : ℕ → ℕ → ℕ
+window_start place len = min (place - 32) (len - 64)
+
+abbrev pub window_end : ℕ → ℕ → ℕ
+window_end place len = min len (window_start place len + 64)
 
 pub record Around (place len start end : ℕ) : Type 0 where
-  -- half of the width before the place, but no further than leaves a whole width
-  pub from : start ≡ min (place - 32) (len - 64)
-  pub to : end ≡ min len (start + 64)
+  pub from : start ≡ window_start place len
+  pub to : end ≡ window_end place len
   -- so a place of the sentence, or its end, is in view
   pub ordered : start ≤ end
   pub within : end ≤ len
@@ -13,4 +19,4 @@ pub record Around (place len start end : ℕ) : Type 0 where
 
 -- a byte of printable ASCII stands for itself, any other for a question mark
 abbrev pub shown_as : ℕ → ℕ
-shown_as b = cond (nat_le 32 b && nat_le b 126) b 63
+shown_as b = if nat_le 32 b && nat_le b 126 then b else 63

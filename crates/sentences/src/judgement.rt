@@ -1,12 +1,13 @@
 // What is said of one sentence.
-ghost use Rattle.std.specs.Prelude.{◌≡◌, MatchResult};
-ghost use Rattle.fault.specs.declared.fault.Fault.TheVariants.{Memory};
+ghost use Rattle.std.specs.Prelude.{Some, IfOk};
 ghost use Rattle.sentences.specs.Judged.{Judged};
+ghost use Rattle.sentences.specs.Shown.{measures_text};
 
 use fault::Fault;
 use reader::read_formula;
 use sign::Variables;
-use std::alloc::Global;
+use std::alloc::{AllocError, Global};
+use std::fmt;
 
 /// What is measured of a formula.
 #[derive(Clone, Copy)]
@@ -16,28 +17,35 @@ pub struct Measures {
     pub free: Variables,
 }
 
-/// A formula, or why the sentence is none.
-#[derive(Clone, Copy)]
-pub enum Judgement {
-    Formula(Measures),
-    Refused(Fault),
+/// The measures of a formula, or why the sentence is none.
+pub type Judgement = Result<Measures, Fault>;
+
+/// Judges the bytes of a sentence. Want of memory is no judgement.
+pub fn judge(heap: Global, sentence: &[u8]) -> Result<Judgement, AllocError>
+    ensures { IfOk result (Judged sentence.now) }
+{
+    match read_formula(heap, sentence) {
+        Ok(formula) => Ok(Ok(Measures {
+            parts: formula.parts(),
+            levels: formula.levels(),
+            free: formula.free_variables(),
+        })),
+        Err(fault) => match fault {
+            Fault::Memory => Err(AllocError),
+            _ => Ok(Err(fault)),
+        },
+    }
 }
 
-impl Judgement {
-    /// Judges the bytes of a sentence; fails only for want of memory.
-    pub fn of(heap: Global, sentence: &[u8]) -> Result<Judgement, Fault>
-        ensures { MatchResult result (Judged sentence.now) (λ e. e ≡ Memory) }
-    {
-        match read_formula(heap, sentence) {
-            Ok(formula) => Ok(Judgement::Formula(Measures {
-                parts: formula.parts(),
-                levels: formula.levels(),
-                free: formula.free_variables(),
-            })),
-            Err(fault) => match fault {
-                Fault::Memory => Err(fault),
-                _ => Ok(Judgement::Refused(fault)),
-            },
-        }
+impl fmt::Display for Measures {
+    ghost output = { λ m. Some (measures_text m) };
+
+    fn fmt<W: fmt::Write>(&self, f: &mut fmt::Formatter<W>) -> fmt::Result {
+        let Measures {
+            parts,
+            levels,
+            free,
+        } = *self;
+        write!(f, "formula, parts {parts}, levels {levels}, free {free}")
     }
 }

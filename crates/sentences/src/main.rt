@@ -1,54 +1,42 @@
 // Checks a sheet of sentences, one a line: which are formulas, and where the others go wrong.
 //
 //   judgement  what is said of one sentence
+//   counts     how many sentences there were, and of which kind
+//   sheet      the sentence being taken, and the counts
 //   window     which bytes of a sentence are shown
 //   excerpt    a sentence as it is shown, with a caret under a place
-//   sheet      the sentence being taken, and the counts
+//   report     the lines that tell of a sentence
 #![tactic(auto)]
 
+mod counts;
 mod excerpt;
 mod judgement;
+mod report;
 mod sheet;
 mod window;
 
-use excerpt::Excerpt;
 use fault::Fault;
-use judgement::{Judgement, Measures};
+use judgement::judge;
+use report::Report;
 use sheet::Sheet;
-use std::io::Read;
-
-// How many bytes are asked for at a time: a page.
-const CHUNK: usize = 4096;
+use std::io::{BufReader, Read};
 
 fn main(rt: HostRuntime) -> anyhow::Result<()> {
     run(&rt)
 }
 
-// Takes the sheet from standard input, chunk by chunk, and tells of each sentence as it ends. Nothing says that an input ends, so the
-// loop counts.
+// Takes the sheet from standard input, and tells of each sentence as it ends.
 fn run(rt: &HostRuntime) -> anyhow::Result<()> {
-    let mut input = rt.stdin();
+    let input = BufReader::new(rt.alloc(), rt.stdin())?;
     let mut sheet = Sheet::new(rt.alloc());
-    for _ in 0..u64::MAX {
-        let mut chunk = [0u8; CHUNK];
-        let count = input.read(&mut chunk)?;
-        if count == 0 {
-            break;
-        }
-        for byte in &chunk[0..count] {
-            take(rt, &mut sheet, *byte)?;
-        }
+    for byte in input.bytes() {
+        take(rt, &mut sheet, byte?)?;
     }
     if !sheet.sentence.is_empty() {
         tell(rt, &mut sheet)?;
     }
-    let Sheet {
-        sentence: _,
-        sentences,
-        formulas,
-        refused,
-    } = sheet;
-    println!(rt; "{sentences} sentences, {formulas} formulas, {refused} refused")?;
+    let counts = sheet.counts;
+    println!(rt; "{counts}")?;
     Ok(())
 }
 
@@ -63,31 +51,17 @@ fn take(rt: &HostRuntime, sheet: &mut Sheet, byte: u8) -> anyhow::Result<()> {
     Ok(())
 }
 
-// Judges the sentence that was taken, and says so.
+// Judges the sentence that was taken, counts it, and says so. Want of memory ends the program in the words of that fault.
 fn tell(rt: &HostRuntime, sheet: &mut Sheet) -> anyhow::Result<()> {
-    let judgement = Judgement::of(rt.alloc(), sheet.sentence.as_slice())?;
-    sheet.count(judgement);
-    let number = sheet.sentences;
-    match judgement {
-        Judgement::Formula(measures) => {
-            let Measures {
-                parts,
-                levels,
-                free,
-            } = measures;
-            println!(rt; "{number} formula, parts {parts}, levels {levels}, free {free}")?;
-        }
-        Judgement::Refused(fault) => refuse(rt, number, fault, sheet.sentence.as_slice())?,
-    }
-    Ok(())
-}
-
-// Says why a sentence is no formula, and where.
-fn refuse(rt: &HostRuntime, number: u64, fault: Fault, sentence: &[u8]) -> anyhow::Result<()> {
-    let place = fault.place();
-    let code = fault.number().unwrap_or(0);
-    println!(rt; "{number} refused {code} place {place}: {fault}")?;
-    let excerpt = Excerpt { sentence, place };
-    println!(rt; "{excerpt}")?;
+    let sentence = sheet.sentence.as_slice();
+    let judgement = judge(rt.alloc(), sentence).map_err(Fault::from)?;
+    sheet.counts.add(judgement);
+    let number = sheet.counts.sentences;
+    let report = Report {
+        number,
+        judgement,
+        sentence,
+    };
+    println!(rt; "{report}")?;
     Ok(())
 }

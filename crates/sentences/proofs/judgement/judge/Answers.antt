@@ -1,5 +1,5 @@
 use Rattle.sentences.proofs.Lines.{judged}
-use Rattle.sentences.proofs.judgement.Judgement.of.Goals as goal
+use Rattle.sentences.proofs.judgement.judge.Goals as goal
 
 pub returns-in_default : goal.returns-in_default
 returns-in_default c =
