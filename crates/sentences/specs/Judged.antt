@@ -1,11 +1,12 @@
 -- What a judgement says of the bytes of a sentence. Assumes nothing.
-use Rattle.std.specs.Prelude.{◌≡◌, ℕ, ◌<◌, false, List, length, take, slice_index_or, Result, MatchResult}
+use Rattle.std.specs.Prelude.{◌≡◌, ℕ, ◌<◌, List, length, take, Result, MatchResult}
 use Rattle.logic.specs.Syntax as pure
 use Rattle.logic.specs.Syntax.{free}
-use Rattle.logic.specs.Text.{names, parts, levels, Reads}
+use Rattle.logic.specs.Text.{parts, levels, Reads}
 use Rattle.logic.specs.Misreadings.{formulas}
 use Rattle.logic.specs.Long.{longest}
 use Rattle.logic.specs.Reading.{formula_of}
+use Rattle.sign.specs.Sets.{IsSetOf}
 use Rattle.reader.specs.Told.{Tells, Meant}
 use Rattle.fault.specs.declared.fault.Source.{Source}
 use Rattle.fault.specs.declared.fault.Fault.{Fault}
@@ -18,7 +19,7 @@ pub record Measured (bytes : List ℕ) (m : Measures) : Type 0 where
   pub read : Reads bytes sense
   pub of_parts : m.parts ≡ parts sense
   pub of_levels : m.levels ≡ levels sense
-  pub of_free : (x : ℕ) → x < names → slice_index_or m.free.holds x false ≡ free x sense
+  pub of_free : IsSetOf (λ x. free x sense) m.free
 
 -- the bytes are the text of no formula within the limits, and the fault is the one that the theory tells, and means what it
 -- should; where the bytes are more than the longest text has, so it is with every line that begins with them
