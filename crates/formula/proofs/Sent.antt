@@ -3,10 +3,11 @@ use Rattle.std.proofs.Common.{ℕ, List, [], ◌∷◌, ◌++◌, sym, subst}
 use Rattle.std.specs.List.{FoldsTo}
 
 module _ {S : Type 0} (gives : S → ℕ → S → Type 0) where
-  pub append : (a b : List ℕ) (s t u : S) → FoldsTo gives s a t → FoldsTo gives t b u → FoldsTo gives s (a ++ b) u
+  append : (a b : List ℕ) (s t u : S) → FoldsTo gives s a t → FoldsTo gives t b u → FoldsTo gives s (a ++ b) u
   append [] b s t u p q = subst (λ (x : S). FoldsTo gives x b u) (sym p) q
   append (x ∷ a) b s t u p q = (p.0, p.1, append a b p.0 t u p.2 q)
 
-  -- a text and a byte behind it
-  pub then_byte : (a : List ℕ) (b : ℕ) (rest : List ℕ) (s t u v : S) → FoldsTo gives s a t → gives t b u → FoldsTo gives u rest v → FoldsTo gives s (a ++ (b ∷ rest)) v
+  -- a text, a byte, and the rest
+  pub then_byte : (a : List ℕ) (b : ℕ) (rest : List ℕ) (s t u v : S)
+      → FoldsTo gives s a t → gives t b u → FoldsTo gives u rest v → FoldsTo gives s (a ++ (b ∷ rest)) v
   then_byte a b rest s t u v p q r = append a (b ∷ rest) s t v p (u, q, r)

@@ -15,7 +15,11 @@ module _ {W : Type 0} (took : W → List ℕ → W → Type 0) where
     pub writes : WritesOnOk took s.f.now t.result bytes t.f.now
 
   blank : (s : Writer W) → Written s [] s
-  blank s = record { formatter = refl; first = λ ok. ok; writes = λ plain ok. record { wrote = writes_in_calls_nil took s.f.now.writer; plain = plain } }
+  blank s = record {
+    formatter = refl;
+    first = λ ok. ok;
+    writes = λ plain ok. record { wrote = writes_in_calls_nil took s.f.now.writer; plain = plain };
+  }
 
   pub written : (bytes : List ℕ) (s t : Writer W) → IsAscii bytes → FoldsTo (Writes took) s bytes t → Written s bytes t
   written [] s t ascii p = subst (Written s []) p (blank s)

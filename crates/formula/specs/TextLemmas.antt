@@ -17,7 +17,8 @@ use Rattle.formula.specs.declared.tree.Formula.TheVariants.{Predicate0, Predicat
 
 -- a name with its letter, before other bytes
 name : (l : ℕ) (x : Name) (bytes : List ℕ) → l < 128 → IsAscii bytes → IsAscii (l ∷ digit x.digit ∷ bytes)
-name l x bytes small a = IsAscii-cons l (digit x.digit ∷ bytes) small (IsAscii-cons (digit x.digit) bytes (omega (arith, x.small)) a)
+name l x bytes small a =
+    IsAscii-cons l (digit x.digit ∷ bytes) small (IsAscii-cons (digit x.digit) bytes (omega (arith, x.small)) a)
 
 one : (s : List ℕ) → IsAscii s → IsAscii (enclosed s)
 one s a = IsAscii-cons 'open' (s ++ ('close' ∷ [])) (lit< tt) (IsAscii-push s 'close' a (lit< tt))
@@ -56,7 +57,8 @@ formula_ascii (Predicate2 p s t) =
     name 'r' p (paired a b) (lit< tt) (two a 'comma' b (term_ascii s) (lit< tt) (term_ascii t))
 formula_ascii (Not' p a) = IsAscii-cons '-' (text (formula a)) (lit< tt) (formula_ascii a)
 formula_ascii (Binary' k p a q b) =
-    two (text (formula a)) (joint (connective k)) (text (formula b)) (formula_ascii a) (joint_small (connective k)) (formula_ascii b)
+    let x = joint (connective k) in
+    two (text (formula a)) x (text (formula b)) (formula_ascii a) (joint_small (connective k)) (formula_ascii b)
 formula_ascii (Quantified' q x p a) =
     IsAscii-cons (letter (quantifier q)) ('x' ∷ digit x.digit ∷ text (formula a)) (letter_small (quantifier q))
     (name 'x' x (text (formula a)) (lit< tt) (formula_ascii a))

@@ -9,7 +9,7 @@ use crate::text::{Sink, Spell};
 use crate::tree::{Formula, Term};
 use std::fmt;
 
-// A formatter that keeps the first error and writes nothing more.
+// A formatter, and the first error that it met: nothing is written behind it.
 #[derive(Drop)]
 struct Writer<'a, W> {
     f: &'a mut fmt::Formatter<W>,

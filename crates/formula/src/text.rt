@@ -20,11 +20,11 @@ pub trait Sink {
         ensures { put_gives self.old byte self.new };
 }
 
-/// What has a text of ASCII bytes.
+/// What can be spelt out as ASCII text.
 pub trait Spell {
     ghost text: { Self → List ℕ };
 
-    /// Sends the text to the sink.
+    /// Sends the text to the sink, from its first byte on.
     fn spell<S: Sink>(&self, sink: &mut S)
         ensures { FoldsTo S.put_gives sink.old (text self.now) sink.new };
 

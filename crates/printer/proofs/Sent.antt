@@ -7,7 +7,8 @@ use Rattle.printer.specs.Sinks.{HasCounted, Counts, Puts}
 use Rattle.printer.specs.Printed.{Put}
 use Rattle.printer.proofs.Fronts.{Front, blank, put}
 
-pub counted : (bytes : List ℕ) (s t : Count) (n m : ℕ) → n + length bytes ≡ m → HasCounted s n → FoldsTo Counts s bytes t → HasCounted t m
+pub counted : (bytes : List ℕ) (s t : Count) (n m : ℕ) → n + length bytes ≡ m
+    → HasCounted s n → FoldsTo Counts s bytes t → HasCounted t m
 counted [] s t n m e h p = let k : n ≡ m = omega arith in subst (λ x. HasCounted x m) p (subst (HasCounted s) k h)
 counted (b ∷ bytes) s t n m e h p = counted bytes p.0 t (n + 1) m (omega arith) (p.1 n h) p.2
 
@@ -29,15 +30,16 @@ filled before done (b ∷ bytes) s t same fits f p =
     let e = one.bytes inside in
     let k = one.place inside in
     let grown : Front before (set s.out.now s.at b) (done ++ (b ∷ [])) (s.at + 1) = put b f (omega arith) in
-    let rest = filled before (done ++ (b ∷ [])) bytes j t (ap length e ∙ length-set s.out.now s.at b ∙ same) (omega arith) (rw (e, k) grown) p.2 in
+    let long : length j.out.now ≡ length before = ap length e ∙ length-set s.out.now s.at b ∙ same in
+    let rest = filled before (done ++ (b ∷ [])) bytes j t long (omega arith) (rw (e, k) grown) p.2 in
     record {
       buffer = rest.buffer ∙ one.buffer;
       front = subst (λ x. Front before t.out.now x t.at) (append_assoc done (b ∷ []) bytes) rest.front;
     }
 
 -- the buffer is empty at first, and has room for the whole text
-pub printed : (before bytes : List ℕ) (s t : Buffer) → s.out.now ≡ before → s.at ≡ 0 → length bytes ≤ length before → FoldsTo Puts s bytes t
-    → (t.out.ghost_name ≡ s.out.ghost_name) × Put bytes before t.out.now (length bytes)
+pub printed : (before bytes : List ℕ) (s t : Buffer) → s.out.now ≡ before → s.at ≡ 0 → length bytes ≤ length before
+    → FoldsTo Puts s bytes t → (t.out.ghost_name ≡ s.out.ghost_name) × Put bytes before t.out.now (length bytes)
 printed before bytes s t e z fits p =
     let all = filled before [] bytes s t (ap length e) (omega arith) (rw (e, z) (blank before)) p in
     (all.buffer, record { count = refl; fits = fits; bytes = let n = all.front.size in let b = all.front.bytes in cc })

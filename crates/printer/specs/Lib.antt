@@ -1,3 +1,3 @@
 pub mod Printed
-pub mod Back
+pub mod PrintedLemmas
 pub mod Sinks

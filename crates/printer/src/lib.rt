@@ -5,7 +5,7 @@ ghost use Rattle.std.specs.Prelude.{◌≡◌, ℕ, ◌-◌, ◌^◌, ◌<◌, m
 ghost use Rattle.std.specs.Option.{SomeIff};
 ghost use Rattle.formula.specs.View.{term, formula};
 ghost use Rattle.printer.specs.Printed.{Printed, FormulaBack, TermBack};
-ghost use Rattle.printer.specs.Back.{term_back, formula_back};
+ghost use Rattle.printer.specs.PrintedLemmas.{term_back, formula_back};
 
 mod sinks;
 
@@ -13,9 +13,9 @@ use fault::Fault;
 use formula::{Formula, Spell, Term};
 use sinks::{Buffer, Count};
 
-/// What reads back from its text.
+/// What reads back from its text, and from no other bytes.
 pub trait ReadBack: Spell {
-    // What is told of a text that was printed.
+    // What printed bytes tell of the tree.
     ghost back: { Self → List ℕ → Type 0 };
 
     ghost reads_back: { (x : Self) → back x (Self.text x) };

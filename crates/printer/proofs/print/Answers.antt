@@ -6,11 +6,13 @@ use Rattle.printer.proofs.print.Goals as goal
 pub returns-in-Some-clause-printed : goal.returns-in-Some-clause-printed
 returns-in-Some-clause-printed g c =
     let len = c.in-Some.ensures.1 in
-    let all = printed c.args.out.now (g.T.Spell.text c.args.tree.now) _ _ refl refl (omega (arith, c.if-len-out.true)) c.spell.ensures in
+    let text = g.T.Spell.text c.args.tree.now in
+    let all = printed c.args.out.now text _ _ refl refl (omega (arith, c.if-len-out.true)) c.spell.ensures in
     let same = all.0 in
     let put = all.1 in
     search rules
 
 pub returns-in-Some-clause-back : goal.returns-in-Some-clause-back
 returns-in-Some-clause-back g c =
-    subst (g.T.ReadBack.back c.args.tree.now) (sym (front (returns-in-Some-clause-printed g c))) (g.met.T.ReadBack.reads_back c.args.tree.now)
+    let is_text = front (returns-in-Some-clause-printed g c) in
+    subst (g.T.ReadBack.back c.args.tree.now) (sym is_text) (g.met.T.ReadBack.reads_back c.args.tree.now)

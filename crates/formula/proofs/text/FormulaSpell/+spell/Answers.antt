@@ -12,9 +12,8 @@ returns-in-Binary g t c =
     let a = text (formula c.deref-in-Binary.result.now) in
     let b = text (formula c.deref-in-Binary-2.result.now) in
     let rest = then_byte gives b 'close' [] _ _ _ _ c.spell-in-Binary-2.ensures c.put-in-Binary-3.ensures refl in
-    let all : FoldsTo gives c.args.sink.now ('open' ∷ (a ++ (c.sign.result ∷ (b ++ ('close' ∷ []))))) c.put-in-Binary-3.new.self
-    = (_, c.put-in-Binary.ensures, then_byte gives a c.sign.result (b ++ ('close' ∷ [])) _ _ _ _ c.spell-in-Binary.ensures c.put-in-Binary-2.ensures rest) in
+    let inner = then_byte gives a c.sign.result (b ++ ('close' ∷ [])) _ _ _ _ c.spell-in-Binary.ensures c.put-in-Binary-2.ensures rest in
     let i = ap formula c.in-Binary.is in
     let k = c.sign.ensures in
     let e : 'open' ∷ (a ++ (c.sign.result ∷ (b ++ ('close' ∷ [])))) ≡ text (formula c.args.self.now) = cc in
-    subst (λ bytes. FoldsTo gives c.args.sink.now bytes c.put-in-Binary-3.new.self) e all
+    subst (λ bytes. FoldsTo gives c.args.sink.now bytes c.put-in-Binary-3.new.self) e (_, c.put-in-Binary.ensures, inner)
