@@ -1,26 +1,22 @@
 -- What a fleet of well-formed bytes and words says, and that its runs are tables. Assumes nothing.
-use Rattle.std.proofs.Common.{◌≡◌, ℕ, ◌+◌, ◌-◌, ◌^◌, ◌<◌, ◌≤◌, Bool, true, false, cond, not, ◌&&◌, eqb, ltb, List, [], ◌∷◌, map, length, get_or, take, drop, Some, None, sym, refl, ap, ◌∙◌, subst, ap₂, mod-eq_of_lt, arith}
-use lib.ListN.{get_or-map}
+use Rattle.std.proofs.Common.{◌≡◌, ℕ, ◌+◌, ◌-◌, ◌<◌, ◌≤◌, Bool, true, false, cond, not, ◌&&◌, eqb, ltb, List, [], ◌∷◌, map, length, get_or, take, drop, Some, None, Option, slice_get, sym, refl, ap, ◌∙◌, subst, ap₂, arith}
+use Rattle.std.specs.Option.{option_map, option_map_or}
+use Rattle.std.proofs.lemmas.Option.{slice_get-map}
 use Rattle.std.proofs.lemmas.List.{get_or_append_left, length-append, length-map, length-drop, drop-append-le, take-append-le, drop_at}
 use Rattle.std.proofs.lemmas.Bool.{eq-eqb, ne_eqb, le-leb}
 use Rattle.fault.specs.declared.fault.Fault.TheVariants.{SizeOutOfRange, WrongCount, ElementOutOfRange, NotATruthValue}
 use Rattle.logic.proofs.Bits.{bit_zero}
 use Rattle.logic.proofs.Images.{Image, value_image, weight_image}
-use Rattle.scale.specs.declared.word.Word.{Word}
 use Rattle.scale.specs.Flags.{flag}
 use Rattle.scale.specs.Words.{word_algebra, bit_in, flag_in}
-use Rattle.scale.specs.WordsLemmas.{word_path, bit_by_bit}
+use Rattle.scale.specs.WordsLemmas.{bit_by_bit}
 use Rattle.run.specs.Inside.{most_elements, inside0, inside1, inside2}
 use Rattle.run.specs.Layout.{entries, place0, place1, place2, all_below}
-use Rattle.run.specs.Tabled.{size_of}
+use Rattle.run.specs.Listed.{size_of, said}
 use Rattle.run.specs.Checks.{sized}
 use Rattle.run.specs.Tables.{size_in, elements_in, truths_in, truth_of, table_length, most_in_table, table_fault, table_with, table_of}
 use Rattle.run.specs.Fleets.{most_in_fleet, word_of, fleet_with, fleet_of, run_bytes, IsRun, FleetMade}
-use Rattle.run.proofs.Made.{past, sized_is, says_elements, says_truths, elements_are, table_length_lem}
-
--- a word with these bits is the one
-pub word_of_lem : (r : Word) (w : ℕ) → r.bits ≡ w → r ≡ word_of w
-word_of_lem r w h = word_path r (word_of w) (h ∙ sym (mod-eq_of_lt (subst (λ n. n < 2 ^ 64) h r.small)))
+use Rattle.run.proofs.Made.{past, sized_is, says_elements, says_truths, said_at, elements_are, table_length_lem}
 
 -- the truth byte that a bit gives
 abbrev byte_of : ℕ → ℕ → ℕ
@@ -38,10 +34,13 @@ bits_small : (k : ℕ) (words : List ℕ) → all_below 2 (map (byte_of k) words
 bits_small k [] = refl
 bits_small k (w ∷ words) = ap₂ ◌&&◌ (bit_small (bit_in k (word_of w))) (bits_small k words)
 
-truth_at : (k : ℕ) (words : List ℕ) (i : ℕ) → truth_of (get_or (map (byte_of k) words) i 0) ≡ flag_in k (word_of (get_or words i 0))
-truth_at k words i =
-    let none : byte_of k 0 ≡ 0 = ap (λ b. cond b 1 0) (bit_zero k) in
-    ap truth_of (ap (get_or (map (byte_of k) words) i) (sym none) ∙ get_or-map (byte_of k) words i 0) ∙ truth_bit (bit_in k (word_of (get_or words i 0)))
+-- bit k of what a list of words says at a place is what their bits k say there
+truth_at : (k : ℕ) (words : List ℕ) (i : ℕ) → said (flag false) truth_of (map (byte_of k) words) i ≡ flag_in k (said word_algebra.bottom word_of words i)
+truth_at k words i = ap (λ o. option_map_or truth_of o (flag false)) (slice_get-map (byte_of k) words i) ∙ one (slice_get words i)
+  where
+    one : (o : Option ℕ) → option_map_or truth_of (option_map (byte_of k) o) (flag false) ≡ flag_in k (option_map_or word_of o word_algebra.bottom)
+    one None = ap flag (sym (bit_zero k))
+    one (Some w) = truth_bit (bit_in k (word_of w))
 
 either : {V W : Type 0} (h : V → W) (t : Bool) (x y : W) (v w : V) → x ≡ h v → y ≡ h w → cond t x y ≡ h (cond t v w)
 either h true x y v w p q = p
@@ -55,8 +54,8 @@ module _ (k n : ℕ) (elements words : List ℕ) where
   run_image : Image (flag_in k) (fleet_with n elements words) (table_with n elements (map (byte_of k) words))
   run_image =
       let m = size_of n in
-      let at : (t : Bool) (i : ℕ) → cond t (truth_of (get_or (map (byte_of k) words) i 0)) (flag false) ≡ flag_in k (cond t (word_of (get_or words i 0)) word_algebra.bottom) =
-      λ t i. either (flag_in k) t (truth_of (get_or (map (byte_of k) words) i 0)) (flag false) (word_of (get_or words i 0)) word_algebra.bottom (truth_at k words i) bottom_at in
+      let at : (t : Bool) (i : ℕ) → cond t (said (flag false) truth_of (map (byte_of k) words) i) (flag false) ≡ flag_in k (cond t (said word_algebra.bottom word_of words i) word_algebra.bottom) =
+      λ t i. either (flag_in k) t (said (flag false) truth_of (map (byte_of k) words) i) (flag false) (said word_algebra.bottom word_of words i) word_algebra.bottom (truth_at k words i) bottom_at in
       record {
         size = refl;
         con = λ c. refl;
@@ -131,8 +130,10 @@ module _ (bytes words : List ℕ) (n count : ℕ) (size : n ≡ size_in bytes) (
             (ap₂ ◌&&◌ (eq-eqb (length bytes) (1 + entries (size_in bytes)) long') (eq-eqb (length words) (entries (size_in bytes)) wide'))
             below';
         meaning = refl;
-        elements = says_elements bytes one few (omega (arith, long')) below' word_algebra.bottom (λ i. word_of (get_or words i 0));
-        truths = says_truths word_algebra.bottom (size_in bytes) (elements_in bytes) (λ i. word_of (get_or words i 0));
+        elements = says_elements bytes one few (omega (arith, long')) below' word_algebra.bottom (said word_algebra.bottom word_of words);
+        truths =
+            says_truths word_algebra.bottom word_of (size_in bytes) (elements_in bytes) words one few (λ i. word_of (get_or words i 0))
+            (λ i h. said_at word_algebra.bottom word_of words i 0 (omega (arith, wide', h)));
         runs = is_run bytes words within' long' wide' below';
       })
     where

@@ -1,14 +1,15 @@
 -- What a run of well-formed bytes says. Assumes nothing.
-use Rattle.std.proofs.Common.{◌≡◌, ℕ, ◌+◌, ◌-◌, ◌<◌, ◌≤◌, min, Bool, true, false, cond, not, eqb, leb, List, length, get_or, take, drop, Some, None, sym, refl, ap, ◌∙◌, subst, ap₂, arith}
-use mathlib.Core.Path.{fun_ext}
+use Rattle.std.proofs.Common.{◌≡◌, ℕ, ◌+◌, ◌-◌, ◌<◌, ◌≤◌, min, Bool, true, false, cond, not, eqb, leb, List, length, get_or, slice_index_or, take, drop, Some, None, sym, refl, ap, ◌∙◌, subst, ap₂, arith}
 use Rattle.std.proofs.lemmas.List.{get_or-take, get_or-drop, length-take, length-drop, take_all}
+use Rattle.std.specs.Option.{option_map_or}
+use Rattle.std.proofs.lemmas.Option.{slice_get-get_or}
 use Rattle.std.proofs.lemmas.Bool.{lt-ltb, leb-true, eq-eqb, and_parts}
 use Rattle.fault.specs.declared.fault.Fault.TheVariants.{SizeOutOfRange, WrongCount, ElementOutOfRange, NotATruthValue}
 use Rattle.logic.specs.Text.{names}
 use Rattle.scale.specs.Flags.{flag}
 use Rattle.run.specs.Inside.{most_elements}
 use Rattle.run.specs.Layout.{entries, place0, place1, place2, all_below}
-use Rattle.run.specs.Tabled.{size_of, entry_of, tabled}
+use Rattle.run.specs.Listed.{size_of, entry_of, said, listed}
 use Rattle.run.specs.Checks.{sized}
 use Rattle.run.specs.Tables.{size_in, elements_in, truths_in, truth_of, table_length, most_in_table, table_fault, table_with, table_of, SaysElements, SaysTruths, TableMade}
 use Rattle.run.proofs.Below.{below_at}
@@ -34,7 +35,7 @@ module _ (bytes : List ℕ) (some : 1 ≤ size_in bytes) (few : size_in bytes �
       ap (λ e. min e (size_of n - 1)) at ∙ omega arith
 
   module _ {V : Type 0} (bottom : V) (truth : ℕ → V) where
-    pub says_elements : SaysElements bytes (tabled bottom (size_in bytes) (elements_in bytes) truth)
+    pub says_elements : SaysElements bytes (listed bottom (size_in bytes) (elements_in bytes) truth)
     says_elements =
         let n = size_in bytes in
         let m = size_of n in
@@ -50,15 +51,27 @@ module _ (bytes : List ℕ) (some : 1 ≤ size_in bytes) (few : size_in bytes �
               ∙ entry_says (place2 m d a b) (subst (λ z. place2 m d a b < entries z) e (place2_lt m d a b h k l));
         }
 
-module _ {V : Type 0} (bottom : V) (n : ℕ) (elements : List ℕ) (truth : ℕ → V) where
-  pub says_truths : SaysTruths truth (tabled bottom n elements truth)
+module _ {T V : Type 0} (bottom : V) (says : T → V) (n : ℕ) (elements : List ℕ) (truths : List T) (some : 1 ≤ n) (few : n ≤ most_elements) (truth : ℕ → V)
+    (at : (i : ℕ) → i < entries n → said bottom says truths i ≡ truth i) where
+  pub says_truths : SaysTruths truth (listed bottom n elements (said bottom says truths))
   says_truths =
       let m = size_of n in
+      let e = size_same n some few in
+      let said_at = said bottom says truths in
       record {
-        pred0 = λ d h. ap (λ t. cond t (truth (place0 d)) bottom) (lt-ltb d names h);
-        pred1 = λ d a h k. ap (λ t. cond t (truth (place1 m d a)) bottom) (inside1_true m d a h k);
-        pred2 = λ d a b h k l. ap (λ t. cond t (truth (place2 m d a b)) bottom) (inside2_true m d a b h k l);
+        pred0 = λ d h. ap (λ t. cond t (said_at (place0 d)) bottom) (lt-ltb d names h) ∙ at (place0 d) (place0_lt n d h);
+        pred1 = λ d a h k.
+            ap (λ t. cond t (said_at (place1 m d a)) bottom) (inside1_true m d a h k)
+            ∙ at (place1 m d a) (subst (λ z. place1 m d a < entries z) e (place1_lt m d a h k));
+        pred2 = λ d a b h k l.
+            ap (λ t. cond t (said_at (place2 m d a b)) bottom) (inside2_true m d a b h k l)
+            ∙ at (place2 m d a b) (subst (λ z. place2 m d a b < entries z) e (place2_lt m d a b h k l));
       }
+
+-- what a list says within its length
+pub said_at : {T V : Type 0} (bottom : V) (says : T → V) (truths : List T) (i : ℕ) (d : T) → i < length truths →
+    said bottom says truths i ≡ says (slice_index_or truths i d)
+said_at bottom says truths i d h = ap (λ o. option_map_or says o bottom) (slice_get-get_or truths i d h)
 
 -- the tests before one that passed do not decide
 pub past : {X : Type 0} (a b c d : Bool) (x e₁ e₂ e₃ e₄ : X) → a ≡ true → b ≡ true → c ≡ true → d ≡ true →
@@ -108,10 +121,11 @@ module _ (bytes : List ℕ) (n count : ℕ) (size : n ≡ size_in bytes) (counte
         meaning = refl;
         elements =
             says_elements bytes one few (omega (arith, ap entries size)) (ap₂ all_below (sym size) (sym (elements_are bytes n count size counted)) ∙ below)
-            (flag false) (λ i. truth_of (get_or (truths_in bytes) i 0));
+            (flag false) (said (flag false) truth_of (truths_in bytes));
         truths =
-            subst (λ f. SaysTruths f (table_of bytes)) (fun_ext (λ i. ap truth_of (get_or-drop (1 + entries (size_in bytes)) bytes i 0)))
-            (says_truths (flag false) (size_in bytes) (elements_in bytes) (λ i. truth_of (get_or (truths_in bytes) i 0)));
+            says_truths (flag false) truth_of (size_in bytes) (elements_in bytes) (truths_in bytes) one few (λ i. truth_of (get_or bytes (1 + entries (size_in bytes) + i) 0))
+            (λ i h. said_at (flag false) truth_of (truths_in bytes) i 0 (omega (arith, ap entries size, length-drop (1 + entries (size_in bytes)) bytes, h))
+            ∙ ap truth_of (get_or-drop (1 + entries (size_in bytes)) bytes i 0));
       })
     where
       meant : table_with n elements truths ≡ table_of bytes

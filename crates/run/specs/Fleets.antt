@@ -1,5 +1,5 @@
 -- Fleets: sixty-four runs that share their elements, with a bit of each word for each run. Assumes nothing.
-use Rattle.std.specs.Prelude.{◌≡◌, ℕ, ◌+◌, ◌%◌, ◌^◌, ◌<◌, ◌≤◌, cond, ◌&&◌, List, [], ◌∷◌, ◌++◌, map, length, None, Option, ◌==◌, slice_index}
+use Rattle.std.specs.Prelude.{◌≡◌, ℕ, ◌+◌, ◌%◌, ◌^◌, ◌<◌, cond, ◌&&◌, List, [], ◌∷◌, ◌++◌, map, length, None, Option, ◌==◌, slice_index}
 use Rattle.std.proofs.Common.{pow_pos}
 use Rattle.std.proofs.lemmas.Nat.{mod_below}
 use Rattle.fault.specs.declared.fault.Fault.{Fault}
@@ -12,9 +12,8 @@ use Rattle.scale.specs.declared.word.Word.{Word}
 use Rattle.scale.specs.Flags.{flag_algebra}
 use Rattle.scale.specs.Words.{word, word_algebra, bit_in, flag_in}
 use Rattle.run.specs.Layout.{entries, all_below}
-use Rattle.run.specs.declared.fleet.FleetRun.{FleetRun}
-use Rattle.run.specs.Inside.{most_elements}
-use Rattle.run.specs.Tabled.{tabled, size_few}
+use Rattle.run.specs.declared.listed.Listed.{Listed}
+use Rattle.run.specs.Listed.{listed, said, listed_view}
 use Rattle.run.specs.Checks.{first_of}
 use Rattle.run.specs.Tables.{size_tests, size_in, elements_in, table_fault, table_of, SaysElements, SaysTruths}
 
@@ -35,7 +34,7 @@ word_of w = word (w % 2 ^ 64) (mod_below w (2 ^ 64) (pow_pos 64))
 
 -- the structure of a size, a list of entries and a list of words
 abbrev pub fleet_with : ℕ → List ℕ → List ℕ → Structure Word
-fleet_with n elements words = tabled word_algebra.bottom n elements (λ i. word_of (slice_index words i))
+fleet_with n elements words = listed word_algebra.bottom n elements (said word_algebra.bottom word_of words)
 
 -- the structure of a fleet
 abbrev pub fleet_of : List ℕ → List ℕ → Structure Word
@@ -52,11 +51,8 @@ pub record IsRun (k : ℕ) (bytes words : List ℕ) (M : Structure Word) : Type 
   pub weight : (a : Formula) → weight_in flag_algebra (table_of (run_bytes k bytes words)) a ≡ flag_in k (weight_in word_algebra M a)
 
 -- what a fleet run means
-abbrev pub fleet_view : FleetRun → Structure Word
-fleet_view r = fleet_with r.elements.stated r.elements.entries.now r.words.now
-
-pub fleet_few : (r : FleetRun) → (fleet_view r).size ≤ most_elements
-fleet_few r = size_few r.elements.stated
+abbrev pub fleet_view : Listed ℕ → Structure Word
+fleet_view = listed_view word_algebra.bottom word_of
 
 -- what comes of making a run of bytes and words that are a fleet
 pub record FleetMade (bytes words : List ℕ) (M : Structure Word) : Type 0 where

@@ -1,5 +1,5 @@
 -- Tables: which bytes are one, and what they say. Assumes nothing.
-use Rattle.std.specs.Prelude.{◌≡◌, ℕ, ◌+◌, ◌*◌, ◌<◌, ◌≤◌, Bool, true, false, not, List, [], ◌∷◌, ◌++◌, length, take, drop, Some, None, Option, Result, MatchResult, ◌==◌, slice_index}
+use Rattle.std.specs.Prelude.{◌≡◌, ℕ, ◌+◌, ◌*◌, ◌<◌, Bool, true, false, not, List, [], ◌∷◌, ◌++◌, length, take, drop, Some, None, Option, Result, MatchResult, ◌==◌, slice_index}
 use Rattle.fault.specs.declared.fault.Fault.{Fault}
 use Rattle.fault.specs.declared.fault.Fault.TheVariants.{SizeOutOfRange, WrongCount, ElementOutOfRange, NotATruthValue}
 use Rattle.logic.specs.Text.{names}
@@ -8,9 +8,8 @@ use Rattle.scale.specs.declared.flag.Flag.{Flag}
 use Rattle.scale.specs.Flags.{flag}
 use Rattle.run.specs.Checks.{first_of, sized}
 use Rattle.run.specs.Layout.{entries, place0, place1, place2, all_below}
-use Rattle.run.specs.declared.table.TableRun.{TableRun}
-use Rattle.run.specs.Inside.{most_elements}
-use Rattle.run.specs.Tabled.{tabled, size_few}
+use Rattle.run.specs.declared.listed.Listed.{Listed}
+use Rattle.run.specs.Listed.{listed, said, listed_view}
 
 -- the first byte is the size
 abbrev pub size_in : List ℕ → ℕ
@@ -50,7 +49,7 @@ truth_of byte = flag (byte == 1)
 
 -- the structure of a size and two lists of entries
 abbrev pub table_with : ℕ → List ℕ → List ℕ → Structure Flag
-table_with n elements truths = tabled (flag false) n elements (λ i. truth_of (slice_index truths i))
+table_with n elements truths = listed (flag false) n elements (said (flag false) truth_of truths)
 
 -- the structure of a table
 abbrev pub table_of : List ℕ → Structure Flag
@@ -70,11 +69,8 @@ pub record SaysTruths {V : Type 0} (truth : ℕ → V) (M : Structure V) : Type 
   pub pred2 : (d a b : ℕ) → d < names → a < M.size → b < M.size → M.pred2 d a b ≡ truth (place2 M.size d a b)
 
 -- what a table run means
-abbrev pub table_view : TableRun → Structure Flag
-table_view r = table_with r.elements.stated r.elements.entries.now r.truths.now
-
-pub table_few : (r : TableRun) → (table_view r).size ≤ most_elements
-table_few r = size_few r.elements.stated
+abbrev pub table_view : Listed ℕ → Structure Flag
+table_view = listed_view (flag false) truth_of
 
 -- what comes of making a run of bytes that are a table
 pub record TableMade (bytes : List ℕ) (M : Structure Flag) : Type 0 where

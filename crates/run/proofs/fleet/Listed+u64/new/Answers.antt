@@ -1,6 +1,6 @@
 use Rattle.std.proofs.Common.{sym}
 use Rattle.run.proofs.Fleets.{fleet_made}
-use Rattle.run.proofs.fleet.FleetRun.new.Goals as goal
+use Rattle.run.proofs.fleet.Listed+u64.new.Goals as goal
 
 pub returns : goal.returns
 returns c =

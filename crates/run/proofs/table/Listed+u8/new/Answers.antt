@@ -1,7 +1,7 @@
 use Rattle.std.proofs.Common.{cond, Some, None, sym, ap, ◌∙◌}
 use Rattle.fault.specs.declared.fault.Fault.TheVariants.{NotATruthValue}
 use Rattle.run.proofs.Made.{table_decides, table_made}
-use Rattle.run.proofs.table.TableRun.new.Goals as goal
+use Rattle.run.proofs.table.Listed+u8.new.Goals as goal
 
 pub returns-then-not-all_below-2 : goal.returns-then-not-all_below-2
 returns-then-not-all_below-2 c =
