@@ -1,9 +1,11 @@
 // Sixty-four runs that share their elements, over bytes and words, lent.
 ghost use Rattle.std.specs.Prelude.{◌≡◌, Some, MatchResult};
-ghost use Rattle.run.specs.Fleets.{word_of, fleet_fault, fleet_view, FleetMade};
+ghost use Rattle.scale.specs.Words.{word_algebra};
+ghost use Rattle.run.specs.Fleets.{word_of, fleet_fault, FleetMade};
 
-use crate::checks::{all_below, entries, first_size};
-use crate::listed::{Listed, Truth};
+use crate::checks::{all_below, first_size};
+use crate::layout::entries;
+use crate::listed::{Elements, Listed, Truth};
 use fault::Fault;
 use scale::Word;
 
@@ -26,22 +28,23 @@ impl Truth for u64 {
 }
 
 impl<'a> Listed<'a, u64> {
+    ghost use Rattle.run.specs.Listed.{listed_view};
+
     /// The fleet that a table's bytes before its predicates and the words of the predicates give.
     pub fn new(bytes: &'a [u8], words: &'a [u64]) -> Result<FleetRun<'a>, Fault>
-        ensures { MatchResult result (λ run. FleetMade bytes.now words.now (fleet_view run)) (λ e. fleet_fault bytes.now words.now ≡ Some e) }
+        ensures { MatchResult result (λ run. FleetMade bytes.now words.now (listed_view word_algebra.bottom word_of run)) (λ e. fleet_fault bytes.now words.now ≡ Some e) }
     {
         let size = first_size(bytes, MOST_IN_FLEET)?;
         let count = entries(size);
         if bytes.len() != 1 + count || words.len() != count {
             return Err(Fault::WrongCount);
         }
-        let elements = &bytes[1..1 + count];
-        if !all_below(elements, size) {
+        let list = &bytes[1..1 + count];
+        if !all_below(list, size) {
             return Err(Fault::ElementOutOfRange);
         }
         Ok(Listed {
-            size,
-            elements,
+            elements: Elements { size, list },
             truths: words,
         })
     }

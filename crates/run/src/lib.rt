@@ -4,7 +4,8 @@
 //   listed     lists of what names answer, lent
 //   table      a listed run over the bytes of a table
 //   fleet      sixty-four tables that share their elements, a listed run over bytes and words
-//   checks     what making a run from bytes looks at
+//   layout     where a list has what names answer
+//   checks     what making a run looks at
 #![tactic(auto)]
 
 ghost use Rattle.std.specs.Prelude.{◌≡◌, ◌≤◌, false};
@@ -15,6 +16,7 @@ use scale::Answers;
 
 mod checks;
 mod fleet;
+mod layout;
 mod listed;
 mod milepost;
 mod table;

@@ -1,9 +1,11 @@
 // A run over the bytes of a table, lent.
-ghost use Rattle.std.specs.Prelude.{◌≡◌, Some, MatchResult};
-ghost use Rattle.run.specs.Tables.{truth_of, table_fault, table_view, TableMade};
+ghost use Rattle.std.specs.Prelude.{◌≡◌, false, Some, MatchResult};
+ghost use Rattle.scale.specs.Flags.{flag};
+ghost use Rattle.run.specs.Tables.{truth_of, table_fault, TableMade};
 
-use crate::checks::{all_below, entries, first_size};
-use crate::listed::{Listed, Truth};
+use crate::checks::{all_below, first_size};
+use crate::layout::entries;
+use crate::listed::{Elements, Listed, Truth};
 use fault::Fault;
 use scale::Flag;
 
@@ -25,26 +27,27 @@ impl Truth for u8 {
 }
 
 impl<'a> Listed<'a, u8> {
+    ghost use Rattle.run.specs.Listed.{listed_view};
+
     /// The run that the bytes of a table give.
     pub fn new(bytes: &'a [u8]) -> Result<TableRun<'a>, Fault>
-        ensures { MatchResult result (λ run. TableMade bytes.now (table_view run)) (λ e. table_fault bytes.now ≡ Some e) }
+        ensures { MatchResult result (λ run. TableMade bytes.now (listed_view (flag false) truth_of run)) (λ e. table_fault bytes.now ≡ Some e) }
     {
         let size = first_size(bytes, MOST_IN_TABLE)?;
         let count = entries(size);
         if bytes.len() != 1 + count + count {
             return Err(Fault::WrongCount);
         }
-        let elements = &bytes[1..1 + count];
+        let list = &bytes[1..1 + count];
         let truths = &bytes[1 + count..];
-        if !all_below(elements, size) {
+        if !all_below(list, size) {
             return Err(Fault::ElementOutOfRange);
         }
         if !all_below(truths, 2) {
             return Err(Fault::NotATruthValue);
         }
         Ok(Listed {
-            size,
-            elements,
+            elements: Elements { size, list },
             truths,
         })
     }
