@@ -2,7 +2,7 @@ use Rattle.std.proofs.Common.{ap, arith}
 use Rattle.std.proofs.lemmas.Bool.Decides.{nat_tests}
 use Rattle.scale.specs.Words.{word_algebra}
 use Rattle.scale.specs.WordsLemmas.{word_path}
-use Rattle.scale.proofs.word.answers.WordAnswers.is_top.Goals as goal
+use Rattle.scale.proofs.word.WordAnswers.is_top.Goals as goal
 
 pub returns : goal.returns
 returns c = (
