@@ -29,6 +29,7 @@ impl Word {
     }
 }
 
+#[tactic(auto, using(crate::specs::WordsLemmas::word_path))]
 impl Answers for Word {
     ghost use Rattle.logic.proofs.Boolean;
     ghost use Rattle.scale.specs.Words.{word_algebra};
