@@ -1,8 +1,8 @@
 // Sixty-four runs that share their elements, over bytes and words, lent.
 ghost use Rattle.std.specs.Prelude.{◌≡◌, Some, MatchResult};
-ghost use Rattle.scale.specs.Words.{word_algebra};
 ghost use Rattle.run.specs.Fleets.{word_of, fleet_fault, FleetMade};
 
+use crate::Run;
 use crate::checks::{all_below, first_size};
 use crate::layout::entries;
 use crate::listed::{Elements, Listed, Truth};
@@ -28,11 +28,9 @@ impl Truth for u64 {
 }
 
 impl<'a> Listed<'a, u64> {
-    ghost use Rattle.run.specs.Listed.{listed_view};
-
     /// The fleet that a table's bytes before its predicates and the words of the predicates give.
     pub fn new(bytes: &'a [u8], words: &'a [u64]) -> Result<FleetRun<'a>, Fault>
-        ensures { MatchResult result (λ run. FleetMade bytes.now words.now (listed_view word_algebra.bottom word_of run)) (λ e. fleet_fault bytes.now words.now ≡ Some e) }
+        ensures { MatchResult result (λ run. FleetMade bytes.now words.now (⟦<FleetRun<'a> as Run>⟧.meaning run)) (λ e. fleet_fault bytes.now words.now ≡ Some e) }
     {
         let size = first_size(bytes, MOST_IN_FLEET)?;
         let count = entries(size);

@@ -16,11 +16,11 @@ pub struct MilepostRun {
 }
 
 impl MilepostRun {
-    ghost use Rattle.run.specs.Mileposts.{milepost_view, milepost_fault, MilepostMade};
+    ghost use Rattle.run.specs.Mileposts.{milepost_fault, MilepostMade};
 
     /// The row of so many mileposts, at most `MOST_ELEMENTS`.
     pub fn new(size: u8) -> Result<MilepostRun, Fault>
-        ensures { MatchResult result (λ run. MilepostMade size (milepost_view run)) (λ e. milepost_fault size ≡ Some e) }
+        ensures { MatchResult result (λ run. MilepostMade size (⟦<MilepostRun as Run>⟧.meaning run)) (λ e. milepost_fault size ≡ Some e) }
     {
         Ok(MilepostRun {
             size: sized(size, MOST_ELEMENTS)?,

@@ -1,8 +1,8 @@
 // A run over the bytes of a table, lent.
-ghost use Rattle.std.specs.Prelude.{◌≡◌, false, Some, MatchResult};
-ghost use Rattle.scale.specs.Flags.{flag};
+ghost use Rattle.std.specs.Prelude.{◌≡◌, Some, MatchResult};
 ghost use Rattle.run.specs.Tables.{truth_of, table_fault, TableMade};
 
+use crate::Run;
 use crate::checks::{all_below, first_size};
 use crate::layout::entries;
 use crate::listed::{Elements, Listed, Truth};
@@ -27,11 +27,9 @@ impl Truth for u8 {
 }
 
 impl<'a> Listed<'a, u8> {
-    ghost use Rattle.run.specs.Listed.{listed_view};
-
     /// The run that the bytes of a table give.
     pub fn new(bytes: &'a [u8]) -> Result<TableRun<'a>, Fault>
-        ensures { MatchResult result (λ run. TableMade bytes.now (listed_view (flag false) truth_of run)) (λ e. table_fault bytes.now ≡ Some e) }
+        ensures { MatchResult result (λ run. TableMade bytes.now (⟦<TableRun<'a> as Run>⟧.meaning run)) (λ e. table_fault bytes.now ≡ Some e) }
     {
         let size = first_size(bytes, MOST_IN_TABLE)?;
         let count = entries(size);
