@@ -2,7 +2,7 @@
 use Rattle.std.proofs.Common.{◌≡◌, ℕ, ◌+◌, ◌-◌, ◌<◌, ◌≤◌, Bool, true, false, cond, not, ◌&&◌, eqb, ltb, List, [], ◌∷◌, map, length, get_or, take, drop, Some, None, Option, slice_get, sym, refl, ap, ◌∙◌, subst, ap₂, arith}
 use Rattle.std.specs.Option.{option_map, option_map_or}
 use Rattle.std.proofs.lemmas.Option.{slice_get-map}
-use Rattle.std.proofs.lemmas.List.{get_or_append_left, length-append, length-map, length-drop, drop-append-le, take-append-le, drop_at}
+use Rattle.std.proofs.lemmas.List.{get_or_append_left, length-append, length-map, length-drop, drop-append-le, take-append-le, drop_at, take_all}
 use Rattle.std.proofs.lemmas.Bool.{eq-eqb, eqb-true, ne_eqb, le-leb, and_parts}
 use Rattle.fault.specs.declared.fault.Fault.TheVariants.{NotATruthValue}
 use Rattle.logic.proofs.Bits.{bit_zero}
@@ -18,7 +18,7 @@ use Rattle.run.specs.Listed.{said, listed}
 use Rattle.run.specs.Checks.{is_sized}
 use Rattle.run.specs.Tables.{size_in, elements_in, truths_in, ListsPass, lists_pass, truth_tests, truth_of, table_length, table_counted, most_in_table, table_fault}
 use Rattle.run.specs.Fleets.{most_in_fleet, word_of, fleet_counted, fleet_fault, fleet_of, run_bytes, IsRun, FleetMade}
-use Rattle.run.proofs.Made.{lists_past, listed_same, says_elements, says_truths, said_at, elements_are, table_length_lem}
+use Rattle.run.proofs.Made.{filled, lists_past, listed_same, says_elements, says_truths, said_at, table_length_lem}
 
 -- the truth byte that a bit gives
 abbrev byte_of : ℕ → ℕ → ℕ
@@ -141,20 +141,16 @@ fleet_made bytes words faultless =
       runs = is_run bytes words faultless;
     }
 
--- so does a run of the slice of bytes that pass each test, and of the words
-pub fleet_new : (bytes words : List ℕ) (n count : ℕ) → n ≡ size_in bytes → count ≡ entries n → not (eqb (length bytes) 0) ≡ true →
-    is_sized most_in_fleet n ≡ true → length bytes ≡ 1 + count → length words ≡ count → all_below n (take (1 + count - 1) (drop 1 bytes)) ≡ true →
-    (some : 1 ≤ n) (below : all_below n (take (1 + count - 1) (drop 1 bytes)) ≡ true) →
-    FleetMade bytes words (listed word_algebra.bottom word_of n (take (1 + count - 1) (drop 1 bytes)) words some below)
-fleet_new bytes words n count size many filled sized long wide inside some below =
-    let many' : count ≡ entries (size_in bytes) = many ∙ ap entries size in
-    let elements = elements_are bytes n count size many in
-    let faultless : fleet_fault bytes words ≡ None =
-    lists_past most_in_fleet (fleet_counted bytes words) bytes [] filled
-    (subst (λ k. is_sized most_in_fleet k ≡ true) size sized)
-    (ap₂ ◌&&◌ (eq-eqb (length bytes) (1 + entries (size_in bytes)) (long ∙ ap (λ k. 1 + k) many')) (eq-eqb (length words) (entries (size_in bytes)) (wide ∙ many')))
-    (ap₂ all_below (sym size) (sym elements) ∙ inside) in
-    let pass = lists_pass most_in_fleet (fleet_counted bytes words) bytes [] faultless in
-    subst (FleetMade bytes words)
-    (listed_same word_algebra.bottom word_of pass.some some pass.below below (sym size) (sym elements) refl)
-    (fleet_made bytes words faultless)
+-- so does a run of the list in bytes that pass each test, and of the words
+pub fleet_new : (bytes list words : List ℕ) (m count : ℕ) → bytes ≡ m ∷ list → is_sized most_in_fleet m ≡ true → count ≡ entries m → length list ≡ count → length words ≡ count →
+    all_below m list ≡ true → (some : 1 ≤ m) (below : all_below m list ≡ true) → FleetMade bytes words (listed word_algebra.bottom word_of m list words some below)
+fleet_new bytes list words m count split sized many listed_long wide inside some below =
+    let fleet = m ∷ list in
+    let elements : elements_in fleet ≡ list = take_all (entries m) list (omega arith) in
+    let faultless : fleet_fault fleet words ≡ None =
+    lists_past most_in_fleet (fleet_counted fleet words) fleet [] (filled m list) sized
+    (ap₂ ◌&&◌ (eq-eqb (length fleet) (1 + entries m) (omega arith)) (eq-eqb (length words) (entries m) (wide ∙ many)))
+    (ap (all_below m) elements ∙ inside) in
+    let pass = lists_pass most_in_fleet (fleet_counted fleet words) fleet [] faultless in
+    subst (λ bs. FleetMade bs words (listed word_algebra.bottom word_of m list words some below)) (sym split)
+    (subst (FleetMade fleet words) (listed_same word_algebra.bottom word_of pass.some some pass.below below refl elements refl) (fleet_made fleet words faultless))

@@ -1,11 +1,11 @@
 -- What a run of well-formed bytes says. Assumes nothing.
-use Rattle.std.proofs.Common.{◌≡◌, ℕ, ◌+◌, ◌-◌, ◌<◌, ◌≤◌, Bool, true, false, cond, not, eqb, leb, List, ◌∷◌, ◌++◌, length, get_or, take, drop, Some, None, sym, refl, ap, ◌∙◌, subst, ap₂, arith}
+use Rattle.std.proofs.Common.{◌≡◌, ℕ, ◌+◌, ◌-◌, ◌*◌, ◌<◌, ◌≤◌, Bool, true, false, cond, not, eqb, leb, List, ◌∷◌, ◌++◌, length, get_or, take, drop, Some, None, sym, refl, ap, ◌∙◌, subst, ap₂, arith}
 use Rattle.std.proofs.Math.Bridge.{le_prop}
 use mathlib.Core.Bool.{Bool-set}
 use Rattle.std.specs.Option.{option_map_or}
 use Rattle.std.proofs.lemmas.Option.{slice_get-get_or}
-use Rattle.std.proofs.lemmas.List.{get_or-take, get_or-drop, length-drop, take_all}
-use Rattle.std.proofs.lemmas.Bool.{lt-ltb, leb-true, eq-eqb, eqb-true, and_parts}
+use Rattle.std.proofs.lemmas.List.{get_or-take, get_or-drop, length-drop, drop-drop}
+use Rattle.std.proofs.lemmas.Bool.{lt-ltb, leb-true, eq-eqb, eqb-true, ne_eqb, and_parts}
 use Rattle.fault.specs.declared.fault.Fault.{Fault}
 use Rattle.fault.specs.declared.fault.Fault.TheVariants.{SizeOutOfRange, WrongCount, ElementOutOfRange, NotATruthValue}
 use Rattle.logic.specs.Text.{names}
@@ -76,17 +76,6 @@ lists_past most counted bytes more =
     past (not (eqb (length bytes) 0)) (is_sized most (size_in bytes)) counted (all_below (size_in bytes) (elements_in bytes))
     WrongCount SizeOutOfRange WrongCount ElementOutOfRange more
 
-module _ (bytes : List ℕ) (n count : ℕ) (size : n ≡ size_in bytes) (counted : count ≡ entries n) where
-  -- the slice behind the size
-  pub elements_are : take (1 + count - 1) (drop 1 bytes) ≡ elements_in bytes
-  elements_are = let e : 1 + count - 1 ≡ count = omega arith in ap (λ k. take k (drop 1 bytes)) (e ∙ counted ∙ ap entries size)
-
-  -- and the one behind that
-  pub truths_are : take (length bytes - (1 + count)) (drop (1 + count) bytes) ≡ truths_in bytes
-  truths_are =
-      let l = length-drop (1 + count) bytes in
-      take_all (length bytes - (1 + count)) (drop (1 + count) bytes) (omega arith) ∙ ap (λ k. drop (1 + k) bytes) (counted ∙ ap entries size)
-
 -- the published number of bytes
 pub table_length_lem : (n count : ℕ) → count ≡ entries n → 1 + count + count ≡ table_length n
 table_length_lem n count h = omega arith
@@ -107,27 +96,23 @@ table_made bytes faultless =
           ∙ ap truth_of (get_or-drop (1 + entries n) bytes i 0));
     }
 
--- so does a run of the slices of bytes that pass each test
-module _ (bytes : List ℕ) (n count : ℕ) (size : n ≡ size_in bytes) (counted : count ≡ entries n) (filled : not (eqb (length bytes) 0) ≡ true)
-    (sized : is_sized most_in_table n ≡ true) (long : length bytes ≡ 1 + count + count) where
-  abbrev elements : List ℕ
-  elements = take (1 + count - 1) (drop 1 bytes)
+-- a list with a first number is not empty
+pub filled : (x : ℕ) (xs : List ℕ) → not (eqb (length (x ∷ xs)) 0) ≡ true
+filled x xs = ap not (ne_eqb (length (x ∷ xs)) 0 (λ e. omega arith))
 
-  abbrev truths : List ℕ
-  truths = take (length bytes - (1 + count)) (drop (1 + count) bytes)
-
-  module _ (below : all_below n elements ≡ true) (small : all_below 2 truths ≡ true) where
-    table_faultless : table_fault bytes ≡ None
-    table_faultless =
-        lists_past most_in_table (table_counted bytes) bytes (truth_tests bytes) filled
-        (subst (λ k. is_sized most_in_table k ≡ true) size sized)
-        (eq-eqb (length bytes) (table_length (size_in bytes)) (long ∙ table_length_lem n count counted ∙ ap table_length size))
-        (ap₂ all_below (sym size) (sym (elements_are bytes n count size counted)) ∙ below)
-        ∙ ap (λ t. cond t None (Some NotATruthValue)) (ap (all_below 2) (sym (truths_are bytes n count size counted)) ∙ small)
-
-    pub table_new : (some : 1 ≤ n) (below' : all_below n elements ≡ true) → TableMade bytes (listed (flag false) truth_of n elements truths some below')
-    table_new some below' =
-        let pass = lists_pass most_in_table (table_counted bytes) bytes (truth_tests bytes) table_faultless in
-        subst (TableMade bytes)
-        (listed_same (flag false) truth_of pass.some some pass.below below' (sym size) (sym (elements_are bytes n count size counted)) (sym (truths_are bytes n count size counted)))
-        (table_made bytes table_faultless)
+-- so does a run of the parts of bytes that pass each test
+pub table_new : (bytes lists list truths : List ℕ) (m count : ℕ) → bytes ≡ m ∷ lists → is_sized most_in_table m ≡ true → count ≡ entries m → length lists ≡ 2 * count →
+    list ≡ take count lists → truths ≡ drop count lists → all_below m list ≡ true → all_below 2 truths ≡ true →
+    (some : 1 ≤ m) (below : all_below m list ≡ true) → TableMade bytes (listed (flag false) truth_of m list truths some below)
+table_new bytes lists list truths m count split sized counted long front back inside small some below =
+    let table = m ∷ lists in
+    let elements : list ≡ elements_in table = front ∙ ap (λ k. take k lists) counted in
+    let rest : truths ≡ truths_in table = back ∙ ap (λ k. drop k lists) counted ∙ drop-drop (entries m) 1 table in
+    let faultless : table_fault table ≡ None =
+    lists_past most_in_table (table_counted table) table (truth_tests table) (filled m lists) sized
+    (eq-eqb (length table) (table_length m) (omega (arith, table_length_lem m count counted)))
+    (ap (all_below m) (sym elements) ∙ inside)
+    ∙ ap (λ t. cond t None (Some NotATruthValue)) (ap (all_below 2) (sym rest) ∙ small) in
+    let pass = lists_pass most_in_table (table_counted table) table (truth_tests table) faultless in
+    subst (λ bs. TableMade bs (listed (flag false) truth_of m list truths some below)) (sym split)
+    (subst (TableMade table) (listed_same (flag false) truth_of pass.some some pass.below below refl (sym elements) (sym rest)) (table_made table faultless))

@@ -23,14 +23,14 @@ elements_in bytes = take (entries (size_in bytes)) (drop 1 bytes)
 abbrev pub truths_in : List ℕ → List ℕ
 truths_in bytes = drop (1 + entries (size_in bytes)) bytes
 
--- there are bytes, and the first is a size up to the most
-abbrev pub size_tests : ℕ → List ℕ → List (Bool × Fault)
-size_tests most bytes = (not (length bytes == 0), WrongCount) ∷ (is_sized most (size_in bytes), SizeOutOfRange) ∷ []
-
--- then the entries are counted, and those of constants and functions are elements
+-- there are bytes, the first is a size up to the most, the entries are counted, and those of constants and functions are elements
 abbrev pub list_tests : ℕ → Bool → List ℕ → List (Bool × Fault)
 list_tests most counted bytes =
-    size_tests most bytes ++ ((counted, WrongCount) ∷ (all_below (size_in bytes) (elements_in bytes), ElementOutOfRange) ∷ [])
+    (not (length bytes == 0), WrongCount)
+    ∷ (is_sized most (size_in bytes), SizeOutOfRange)
+    ∷ (counted, WrongCount)
+    ∷ (all_below (size_in bytes) (elements_in bytes), ElementOutOfRange)
+    ∷ []
 
 -- what lists have that pass
 pub record ListsPass (most : ℕ) (counted : Bool) (bytes : List ℕ) : Type 0 where
@@ -103,10 +103,3 @@ pub record TableMade (bytes : List ℕ) (M : Structure Flag) : Type 0 where
   pub meaning : M ≡ table_of bytes faultless
   pub elements : SaysElements bytes M
   pub truths : SaysTruths (λ i. truth_of (slice_index bytes (1 + entries (size_in bytes) + i))) M
-
--- what reading the size answers: the size, or what is wrong with it
-abbrev pub SizeRead : List ℕ → ℕ → Result ℕ Fault → Type 0
-SizeRead bytes most r =
-    MatchResult r
-    (λ n. (n ≡ size_in bytes) × (not (length bytes == 0) ≡ true) × (is_sized most n ≡ true))
-    (λ e. first_of (size_tests most bytes) ≡ Some e)

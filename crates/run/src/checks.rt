@@ -3,7 +3,6 @@ ghost use Rattle.std.specs.Prelude.{◌≡◌, if◌then◌else◌, Ok, Err};
 ghost use Rattle.fault.specs.declared.fault.Fault.TheVariants.{SizeOutOfRange};
 ghost use Rattle.run.specs.Checks.{is_sized};
 ghost use Rattle.run.specs.Layout.{all_below};
-ghost use Rattle.run.specs.Tables.{SizeRead};
 
 use fault::Fault;
 
@@ -16,13 +15,6 @@ pub fn sized(size: u8, most: u8) -> Result<u8, Fault>
     } else {
         Err(Fault::SizeOutOfRange)
     }
-}
-
-/// The size that bytes begin with, from 1 to the most.
-pub fn first_size(bytes: &[u8], most: u8) -> Result<u8, Fault>
-    ensures { SizeRead bytes.now most result }
-{
-    sized(*bytes.first().ok_or(Fault::WrongCount)?, most)
 }
 
 /// Whether each byte is below the limit.

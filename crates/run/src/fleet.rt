@@ -3,7 +3,7 @@ ghost use Rattle.std.specs.Prelude.{◌≡◌, Some, MatchResult};
 ghost use Rattle.run.specs.Fleets.{word_of, fleet_fault, FleetMade};
 
 use crate::Run;
-use crate::checks::{all_below, first_size};
+use crate::checks::{all_below, sized};
 use crate::layout::entries;
 use crate::listed::{Elements, Listed, Truth};
 use fault::Fault;
@@ -32,12 +32,12 @@ impl<'a> Listed<'a, u64> {
     pub fn new(bytes: &'a [u8], words: &'a [u64]) -> Result<FleetRun<'a>, Fault>
         ensures { MatchResult result (λ run. FleetMade bytes.now words.now (⟦<FleetRun<'a> as Run>⟧.meaning run)) (λ e. fleet_fault bytes.now words.now ≡ Some e) }
     {
-        let size = first_size(bytes, MOST_IN_FLEET)?;
+        let (size, list) = bytes.split_first().ok_or(Fault::WrongCount)?;
+        let size = sized(*size, MOST_IN_FLEET)?;
         let count = entries(size);
-        if bytes.len() != 1 + count || words.len() != count {
+        if list.len() != count || words.len() != count {
             return Err(Fault::WrongCount);
         }
-        let list = &bytes[1..1 + count];
         if !all_below(list, size) {
             return Err(Fault::ElementOutOfRange);
         }

@@ -3,7 +3,7 @@ ghost use Rattle.std.specs.Prelude.{◌≡◌, Some, MatchResult};
 ghost use Rattle.run.specs.Tables.{truth_of, table_fault, TableMade};
 
 use crate::Run;
-use crate::checks::{all_below, first_size};
+use crate::checks::{all_below, sized};
 use crate::layout::entries;
 use crate::listed::{Elements, Listed, Truth};
 use fault::Fault;
@@ -31,13 +31,13 @@ impl<'a> Listed<'a, u8> {
     pub fn new(bytes: &'a [u8]) -> Result<TableRun<'a>, Fault>
         ensures { MatchResult result (λ run. TableMade bytes.now (⟦<TableRun<'a> as Run>⟧.meaning run)) (λ e. table_fault bytes.now ≡ Some e) }
     {
-        let size = first_size(bytes, MOST_IN_TABLE)?;
+        let (size, lists) = bytes.split_first().ok_or(Fault::WrongCount)?;
+        let size = sized(*size, MOST_IN_TABLE)?;
         let count = entries(size);
-        if bytes.len() != 1 + count + count {
+        if lists.len() != 2 * count {
             return Err(Fault::WrongCount);
         }
-        let list = &bytes[1..1 + count];
-        let truths = &bytes[1 + count..];
+        let (list, truths) = lists.split_at(count);
         if !all_below(list, size) {
             return Err(Fault::ElementOutOfRange);
         }
