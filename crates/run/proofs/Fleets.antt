@@ -1,5 +1,5 @@
 -- What a fleet of well-formed bytes and words says, and that its runs are tables. Assumes nothing.
-use Rattle.std.proofs.Common.{◌≡◌, ℕ, ◌+◌, ◌-◌, ◌<◌, ◌≤◌, Bool, true, false, cond, not, ◌&&◌, eqb, ltb, List, [], ◌∷◌, map, length, get_or, take, drop, Some, None, Option, slice_get, sym, refl, ap, ◌∙◌, subst, ap₂, arith}
+use Rattle.std.proofs.Common.{◌≡◌, ℕ, ◌+◌, ◌<◌, ◌≤◌, Bool, true, false, cond, not, ◌&&◌, eqb, ltb, List, [], ◌∷◌, map, length, get_or, take, drop, Some, None, Option, slice_get, sym, refl, ap, ◌∙◌, subst, ap₂, arith}
 use Rattle.std.specs.Option.{option_map, option_map_or}
 use Rattle.std.proofs.lemmas.Option.{slice_get-map}
 use Rattle.std.proofs.lemmas.List.{get_or_append_left, length-append, length-map, length-drop, drop-append-le, take-append-le, drop_at, take_all}
@@ -37,10 +37,12 @@ bits_small k [] = refl
 bits_small k (w ∷ words) = ap₂ ◌&&◌ (bit_small (bit_in k (word_of w))) (bits_small k words)
 
 -- bit k of what a list of words says at a place is what their bits k say there
-truth_at : (k : ℕ) (words : List ℕ) (i : ℕ) → said (flag false) truth_of (map (byte_of k) words) i ≡ flag_in k (said word_algebra.bottom word_of words i)
+truth_at : (k : ℕ) (words : List ℕ) (i : ℕ) →
+    said (flag false) truth_of (map (byte_of k) words) i ≡ flag_in k (said word_algebra.bottom word_of words i)
 truth_at k words i = ap (λ o. option_map_or truth_of o (flag false)) (slice_get-map (byte_of k) words i) ∙ one (slice_get words i)
   where
-    one : (o : Option ℕ) → option_map_or truth_of (option_map (byte_of k) o) (flag false) ≡ flag_in k (option_map_or word_of o word_algebra.bottom)
+    one : (o : Option ℕ) →
+        option_map_or truth_of (option_map (byte_of k) o) (flag false) ≡ flag_in k (option_map_or word_of o word_algebra.bottom)
     one None = ap flag (sym (bit_zero k))
     one (Some w) = truth_bit (bit_in k (word_of w))
 
@@ -57,12 +59,15 @@ either h false x y v w p q = q
 
 -- a table with bit k of each word is the image of the fleet
 run_image : (k n : ℕ) (elements words : List ℕ) (some : 1 ≤ n) (below : all_below n elements ≡ true) →
-    Image (flag_in k) (listed word_algebra.bottom word_of n elements words some below) (listed (flag false) truth_of n elements (map (byte_of k) words) some below)
+    Image (flag_in k) (listed word_algebra.bottom word_of n elements words some below)
+    (listed (flag false) truth_of n elements (map (byte_of k) words) some below)
 run_image k n elements words some below =
     let in_table : ℕ → Flag = said (flag false) truth_of (map (byte_of k) words) in
     let in_fleet : ℕ → Word = said word_algebra.bottom word_of words in
     let at : (t : Bool) (i : ℕ) → cond t (in_table i) (flag false) ≡ flag_in k (cond t (in_fleet i) word_algebra.bottom) =
-    λ t i. either (flag_in k) t (in_table i) (flag false) (in_fleet i) word_algebra.bottom (truth_at k words i) (ap flag (sym (bit_zero k))) in
+    λ t i.
+    let no = ap flag (sym (bit_zero k)) in
+    either (flag_in k) t (in_table i) (flag false) (in_fleet i) word_algebra.bottom (truth_at k words i) no in
     record {
       size = refl;
       con = λ c. refl;
@@ -109,7 +114,8 @@ module _ (bytes words : List ℕ) (faultless : fleet_fault bytes words ≡ None)
       let n = size_in bytes in
       lists_past most_in_table (table_counted whole) whole (truth_tests whole)
       (ap not (ne_eqb (length whole) 0 (λ e. let l = run_length in omega arith)))
-      (ap (is_sized most_in_table) run_size ∙ ap₂ ◌&&◌ (le-leb 1 n pass.some) (le-leb n most_in_table (let f = pass.few in omega arith)))
+      (ap (is_sized most_in_table) run_size
+      ∙ ap₂ ◌&&◌ (le-leb 1 n pass.some) (le-leb n most_in_table (let f = pass.few in omega arith)))
       (eq-eqb (length whole) (table_length (size_in whole)) run_length)
       (ap₂ all_below run_size run_elements ∙ pass.below)
       ∙ ap (λ t. cond t None (Some NotATruthValue)) (ap (all_below 2) run_truths ∙ bits_small k words)
@@ -118,8 +124,10 @@ module _ (bytes words : List ℕ) (faultless : fleet_fault bytes words ≡ None)
   is_run l =
       let K = bit_by_bit k l in
       let table = lists_pass most_in_table (table_counted whole) whole (truth_tests whole) run_faultless in
-      let same = listed_same (flag false) truth_of pass.some table.some pass.below table.below (sym run_size) (sym run_elements) (sym run_truths) in
-      let I = subst (Image (flag_in k) (fleet_of bytes words faultless)) same (run_image k (size_in bytes) (elements_in bytes) words pass.some pass.below) in
+      let same =
+      listed_same (flag false) truth_of pass.some table.some pass.below table.below (sym run_size) (sym run_elements) (sym run_truths) in
+      let image = run_image k (size_in bytes) (elements_in bytes) words pass.some pass.below in
+      let I = subst (Image (flag_in k) (fleet_of bytes words faultless)) same image in
       record {
         faultless = run_faultless;
         value = value_image K I;
@@ -127,7 +135,8 @@ module _ (bytes words : List ℕ) (faultless : fleet_fault bytes words ≡ None)
       }
 
 -- the bytes and words of a fleet say what they list
-fleet_made : (bytes words : List ℕ) (faultless : fleet_fault bytes words ≡ None) → FleetMade bytes words (fleet_of bytes words faultless)
+fleet_made : (bytes words : List ℕ) (faultless : fleet_fault bytes words ≡ None) →
+    FleetMade bytes words (fleet_of bytes words faultless)
 fleet_made bytes words faultless =
     let pass = lists_pass most_in_fleet (fleet_counted bytes words) bytes [] faultless in
     let wide = (counted bytes words pass.count).1 in
@@ -142,8 +151,10 @@ fleet_made bytes words faultless =
     }
 
 -- so does a run of the list in bytes that pass each test, and of the words
-pub fleet_new : (bytes list words : List ℕ) (m count : ℕ) → bytes ≡ m ∷ list → is_sized most_in_fleet m ≡ true → count ≡ entries m → length list ≡ count → length words ≡ count →
-    all_below m list ≡ true → (some : 1 ≤ m) (below : all_below m list ≡ true) → FleetMade bytes words (listed word_algebra.bottom word_of m list words some below)
+pub fleet_new : (bytes list words : List ℕ) (m count : ℕ) → bytes ≡ m ∷ list → is_sized most_in_fleet m ≡ true →
+    count ≡ entries m → length list ≡ count → length words ≡ count → all_below m list ≡ true →
+    (some : 1 ≤ m) (below : all_below m list ≡ true) →
+    FleetMade bytes words (listed word_algebra.bottom word_of m list words some below)
 fleet_new bytes list words m count split sized many listed_long wide inside some below =
     let fleet = m ∷ list in
     let elements : elements_in fleet ≡ list = take_all (entries m) list (omega arith) in
@@ -152,5 +163,6 @@ fleet_new bytes list words m count split sized many listed_long wide inside some
     (ap₂ ◌&&◌ (eq-eqb (length fleet) (1 + entries m) (omega arith)) (eq-eqb (length words) (entries m) (wide ∙ many)))
     (ap (all_below m) elements ∙ inside) in
     let pass = lists_pass most_in_fleet (fleet_counted fleet words) fleet [] faultless in
+    let same = listed_same word_algebra.bottom word_of pass.some some pass.below below refl elements refl in
     subst (λ bs. FleetMade bs words (listed word_algebra.bottom word_of m list words some below)) (sym split)
-    (subst (FleetMade fleet words) (listed_same word_algebra.bottom word_of pass.some some pass.below below refl elements refl) (fleet_made fleet words faultless))
+    (subst (FleetMade fleet words) {x = fleet_of fleet words faultless} same (fleet_made fleet words faultless))

@@ -1,11 +1,11 @@
 -- What a run of well-formed bytes says. Assumes nothing.
-use Rattle.std.proofs.Common.{◌≡◌, ℕ, ◌+◌, ◌-◌, ◌*◌, ◌<◌, ◌≤◌, Bool, true, false, cond, not, eqb, leb, List, ◌∷◌, ◌++◌, length, get_or, take, drop, Some, None, sym, refl, ap, ◌∙◌, subst, ap₂, arith}
+use Rattle.std.proofs.Common.{◌≡◌, ℕ, ◌+◌, ◌*◌, ◌<◌, ◌≤◌, Bool, true, false, cond, not, eqb, List, ◌∷◌, ◌++◌, length, get_or, take, drop, Some, None, sym, refl, ap, ◌∙◌, subst, ap₂, arith}
 use Rattle.std.proofs.Math.Bridge.{le_prop}
 use mathlib.Core.Bool.{Bool-set}
 use Rattle.std.specs.Option.{option_map_or}
 use Rattle.std.proofs.lemmas.Option.{slice_get-get_or}
 use Rattle.std.proofs.lemmas.List.{get_or-take, get_or-drop, length-drop, drop-drop}
-use Rattle.std.proofs.lemmas.Bool.{lt-ltb, leb-true, eq-eqb, eqb-true, ne_eqb, and_parts}
+use Rattle.std.proofs.lemmas.Bool.{lt-ltb, eq-eqb, eqb-true, ne_eqb}
 use Rattle.fault.specs.declared.fault.Fault.{Fault}
 use Rattle.fault.specs.declared.fault.Fault.TheVariants.{SizeOutOfRange, WrongCount, ElementOutOfRange, NotATruthValue}
 use Rattle.logic.specs.Text.{names}
@@ -16,21 +16,20 @@ use Rattle.run.specs.Checks.{first_of, is_sized}
 use Rattle.run.specs.Tables.{size_in, elements_in, truths_in, list_tests, lists_pass, truth_of, table_length, table_counted, truth_tests, most_in_table, table_fault, table_of, SaysElements, SaysTruths, TableMade}
 use Rattle.run.proofs.Places.{inside1_true, inside2_true, place0_lt, place1_lt, place2_lt}
 
--- what a size within its limit is
-pub sized_is : (n most : ℕ) → is_sized most n ≡ true → (1 ≤ n) × (n ≤ most)
-sized_is n most h = let p = and_parts (leb 1 n) (leb n most) h in (leb-true 1 n p.0, leb-true n most p.1)
-
 module _ {T V : Type 0} (bottom : V) (says : T → V) where
   -- the same lists have the same structure
-  pub listed_same : {n m : ℕ} {es xs : List ℕ} {ts ys : List T} (some : 1 ≤ n) (some' : 1 ≤ m) (below : all_below n es ≡ true) (below' : all_below m xs ≡ true) →
-      n ≡ m → es ≡ xs → ts ≡ ys → listed bottom says n es ts some below ≡ listed bottom says m xs ys some' below'
+  pub listed_same : {n m : ℕ} {es xs : List ℕ} {ts ys : List T} (some : 1 ≤ n) (some' : 1 ≤ m)
+      (below : all_below n es ≡ true) (below' : all_below m xs ≡ true) → n ≡ m → es ≡ xs → ts ≡ ys →
+      listed bottom says n es ts some below ≡ listed bottom says m xs ys some' below'
   listed_same {n} {m} {es} {xs} {ts} {ys} some some' below below' e f g =
       let Same : ℕ → List ℕ → List T → Type 0 =
-      λ k us vs. (a : 1 ≤ k) (b : all_below k us ≡ true) → listed bottom says n es ts some below ≡ listed bottom says k us vs a b in
+      λ k us vs. (a : 1 ≤ k) (b : all_below k us ≡ true) →
+      listed bottom says n es ts some below ≡ listed bottom says k us vs a b in
       let here : Same n es ts = λ a b. ap₂ (listed bottom says n es ts) (le_prop some a) (Bool-set (all_below n es) true below b) in
       subst (λ k. Same k xs ys) e (subst (λ us. Same n us ys) f (subst (Same n es) g here)) some' below'
 
-  module _ (bytes : List ℕ) (truths : List T) (some : 1 ≤ size_in bytes) (below : all_below (size_in bytes) (elements_in bytes) ≡ true) where
+  module _ (bytes : List ℕ) (truths : List T) (some : 1 ≤ size_in bytes)
+      (below : all_below (size_in bytes) (elements_in bytes) ≡ true) where
     abbrev n : ℕ
     n = size_in bytes
 
@@ -44,9 +43,12 @@ module _ {T V : Type 0} (bottom : V) (says : T → V) where
         record {
           size = refl;
           con = λ d h. ap (λ t. cond t (element (place0 d)) 0) (lt-ltb d names h) ∙ entry_says (place0 d) (place0_lt n d h);
-          fun1 = λ d a h k. ap (λ t. cond t (element (place1 n d a)) 0) (inside1_true n d a h k) ∙ entry_says (place1 n d a) (place1_lt n d a h k);
+          fun1 = λ d a h k.
+              ap (λ t. cond t (element (place1 n d a)) 0) (inside1_true n d a h k)
+              ∙ entry_says (place1 n d a) (place1_lt n d a h k);
           fun2 = λ d a b h k l.
-              ap (λ t. cond t (element (place2 n d a b)) 0) (inside2_true n d a b h k l) ∙ entry_says (place2 n d a b) (place2_lt n d a b h k l);
+              ap (λ t. cond t (element (place2 n d a b)) 0) (inside2_true n d a b h k l)
+              ∙ entry_says (place2 n d a b) (place2_lt n d a b h k l);
         }
 
     pub says_truths : (truth : ℕ → V) → ((i : ℕ) → i < entries n → said bottom says truths i ≡ truth i) →
@@ -55,9 +57,11 @@ module _ {T V : Type 0} (bottom : V) (says : T → V) where
         let here : ℕ → V = said bottom says truths in
         record {
           pred0 = λ d h. ap (λ t. cond t (here (place0 d)) bottom) (lt-ltb d names h) ∙ at (place0 d) (place0_lt n d h);
-          pred1 = λ d a h k. ap (λ t. cond t (here (place1 n d a)) bottom) (inside1_true n d a h k) ∙ at (place1 n d a) (place1_lt n d a h k);
+          pred1 = λ d a h k.
+              ap (λ t. cond t (here (place1 n d a)) bottom) (inside1_true n d a h k) ∙ at (place1 n d a) (place1_lt n d a h k);
           pred2 = λ d a b h k l.
-              ap (λ t. cond t (here (place2 n d a b)) bottom) (inside2_true n d a b h k l) ∙ at (place2 n d a b) (place2_lt n d a b h k l);
+              ap (λ t. cond t (here (place2 n d a b)) bottom) (inside2_true n d a b h k l)
+              ∙ at (place2 n d a b) (place2_lt n d a b h k l);
         }
 
   -- what a list says within its length
@@ -70,8 +74,9 @@ pub past : (a b c d : Bool) (e₁ e₂ e₃ e₄ : Fault) (more : List (Bool × 
 past a b c d e₁ e₂ e₃ e₄ more h k l m = rw (h, k, l, m) refl
 
 -- nor do those of lists that pass
-pub lists_past : (most : ℕ) (counted : Bool) (bytes : List ℕ) (more : List (Bool × Fault)) → not (eqb (length bytes) 0) ≡ true → is_sized most (size_in bytes) ≡ true →
-    counted ≡ true → all_below (size_in bytes) (elements_in bytes) ≡ true → first_of (list_tests most counted bytes ++ more) ≡ first_of more
+pub lists_past : (most : ℕ) (counted : Bool) (bytes : List ℕ) (more : List (Bool × Fault)) →
+    not (eqb (length bytes) 0) ≡ true → is_sized most (size_in bytes) ≡ true → counted ≡ true →
+    all_below (size_in bytes) (elements_in bytes) ≡ true → first_of (list_tests most counted bytes ++ more) ≡ first_of more
 lists_past most counted bytes more =
     past (not (eqb (length bytes) 0)) (is_sized most (size_in bytes)) counted (all_below (size_in bytes) (elements_in bytes))
     WrongCount SizeOutOfRange WrongCount ElementOutOfRange more
@@ -91,8 +96,11 @@ table_made bytes faultless =
       meaning = refl;
       elements = says_elements (flag false) truth_of bytes (truths_in bytes) pass.some pass.below;
       truths =
-          says_truths (flag false) truth_of bytes (truths_in bytes) pass.some pass.below (λ i. truth_of (get_or bytes (1 + entries n + i) 0))
-          (λ i h. said_at (flag false) truth_of (truths_in bytes) i 0 (omega (arith, table_length_lem n (entries n) refl, length-drop (1 + entries n) bytes))
+          says_truths (flag false) truth_of bytes (truths_in bytes) pass.some pass.below
+          (λ i. truth_of (get_or bytes (1 + entries n + i) 0))
+          (λ i h.
+          let long_rest = length-drop (1 + entries n) bytes in
+          said_at (flag false) truth_of (truths_in bytes) i 0 (omega (arith, table_length_lem n (entries n) refl))
           ∙ ap truth_of (get_or-drop (1 + entries n) bytes i 0));
     }
 
@@ -101,9 +109,10 @@ pub filled : (x : ℕ) (xs : List ℕ) → not (eqb (length (x ∷ xs)) 0) ≡ t
 filled x xs = ap not (ne_eqb (length (x ∷ xs)) 0 (λ e. omega arith))
 
 -- so does a run of the parts of bytes that pass each test
-pub table_new : (bytes lists list truths : List ℕ) (m count : ℕ) → bytes ≡ m ∷ lists → is_sized most_in_table m ≡ true → count ≡ entries m → length lists ≡ 2 * count →
-    list ≡ take count lists → truths ≡ drop count lists → all_below m list ≡ true → all_below 2 truths ≡ true →
-    (some : 1 ≤ m) (below : all_below m list ≡ true) → TableMade bytes (listed (flag false) truth_of m list truths some below)
+pub table_new : (bytes lists list truths : List ℕ) (m count : ℕ) → bytes ≡ m ∷ lists → is_sized most_in_table m ≡ true →
+    count ≡ entries m → length lists ≡ 2 * count → list ≡ take count lists → truths ≡ drop count lists →
+    all_below m list ≡ true → all_below 2 truths ≡ true → (some : 1 ≤ m) (below : all_below m list ≡ true) →
+    TableMade bytes (listed (flag false) truth_of m list truths some below)
 table_new bytes lists list truths m count split sized counted long front back inside small some below =
     let table = m ∷ lists in
     let elements : list ≡ elements_in table = front ∙ ap (λ k. take k lists) counted in
@@ -114,5 +123,6 @@ table_new bytes lists list truths m count split sized counted long front back in
     (ap (all_below m) (sym elements) ∙ inside)
     ∙ ap (λ t. cond t None (Some NotATruthValue)) (ap (all_below 2) (sym rest) ∙ small) in
     let pass = lists_pass most_in_table (table_counted table) table (truth_tests table) faultless in
+    let same = listed_same (flag false) truth_of pass.some some pass.below below refl (sym elements) (sym rest) in
     subst (λ bs. TableMade bs (listed (flag false) truth_of m list truths some below)) (sym split)
-    (subst (TableMade table) (listed_same (flag false) truth_of pass.some some pass.below below refl (sym elements) (sym rest)) (table_made table faultless))
+    (subst (TableMade table) {x = table_of table faultless} same (table_made table faultless))

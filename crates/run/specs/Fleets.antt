@@ -44,8 +44,10 @@ run_bytes k bytes words = bytes ++ map (λ w. cond (bit_in k (word_of w)) 1 0) w
 -- run k of a fleet is a table, and bit k of every value in the fleet is the value in that table
 pub record IsRun (k : ℕ) (bytes words : List ℕ) (M : Structure Word) : Type 0 where
   pub faultless : table_fault (run_bytes k bytes words) ≡ None
-  pub value : (ρ : ℕ → ℕ) (a : Formula) → value_in flag_algebra (table_of (run_bytes k bytes words) faultless) ρ a ≡ flag_in k (value_in word_algebra M ρ a)
-  pub weight : (a : Formula) → weight_in flag_algebra (table_of (run_bytes k bytes words) faultless) a ≡ flag_in k (weight_in word_algebra M a)
+  pub value : (ρ : ℕ → ℕ) (a : Formula) →
+      value_in flag_algebra (table_of (run_bytes k bytes words) faultless) ρ a ≡ flag_in k (value_in word_algebra M ρ a)
+  pub weight : (a : Formula) →
+      weight_in flag_algebra (table_of (run_bytes k bytes words) faultless) a ≡ flag_in k (weight_in word_algebra M a)
 
 -- what comes of making a run of bytes and words that are a fleet
 pub record FleetMade (bytes words : List ℕ) (M : Structure Word) : Type 0 where

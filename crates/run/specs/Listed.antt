@@ -18,7 +18,8 @@ entry_in n (x ∷ xs) some below zero = ltb-true x n (and_parts (nat_lt x n) (al
 entry_in n (x ∷ xs) some below (suc i) = entry_in n xs some (and_parts (nat_lt x n) (all_below n xs) below).1 i
 
 -- the structure of n elements that a list of elements and one of truths give
-abbrev pub listed : {T V : Type 0} → V → (T → V) → (n : ℕ) → (elements : List ℕ) → List T → 1 ≤ n → all_below n elements ≡ true → Structure V
+abbrev pub listed : {T V : Type 0} → V → (T → V) → (n : ℕ) → (elements : List ℕ) → List T →
+    1 ≤ n → all_below n elements ≡ true → Structure V
 listed bottom says n elements truths some below =
     let element = slice_index elements in
     let truth = said bottom says truths in

@@ -1,5 +1,5 @@
 -- Tables: which bytes are one, and what they say. Assumes nothing.
-use Rattle.std.specs.Prelude.{◌≡◌, ℕ, ◌+◌, ◌*◌, ◌<◌, ◌≤◌, Bool, true, false, not, List, [], ◌∷◌, ◌++◌, length, take, drop, Some, None, Option, Result, MatchResult, ◌==◌, slice_index, nat_le}
+use Rattle.std.specs.Prelude.{◌≡◌, ℕ, ◌+◌, ◌*◌, ◌<◌, ◌≤◌, Bool, true, false, not, List, [], ◌∷◌, ◌++◌, length, take, drop, None, Option, ◌==◌, slice_index, nat_le}
 use Rattle.fault.specs.declared.fault.Fault.{Fault}
 use Rattle.fault.specs.declared.fault.Fault.TheVariants.{SizeOutOfRange, WrongCount, ElementOutOfRange, NotATruthValue}
 use Rattle.logic.specs.Text.{names}
@@ -23,7 +23,8 @@ elements_in bytes = take (entries (size_in bytes)) (drop 1 bytes)
 abbrev pub truths_in : List ℕ → List ℕ
 truths_in bytes = drop (1 + entries (size_in bytes)) bytes
 
--- there are bytes, the first is a size up to the most, the entries are counted, and those of constants and functions are elements
+-- there are bytes, the first is a size up to the most, the entries are counted, and those of constants and functions are
+-- elements
 abbrev pub list_tests : ℕ → Bool → List ℕ → List (Bool × Fault)
 list_tests most counted bytes =
     (not (length bytes == 0), WrongCount)

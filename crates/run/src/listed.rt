@@ -16,7 +16,7 @@ pub trait Truth: Copy {
     /// The value that is written.
     ghost says: { Self → Self.Scale };
 
-    /// The value that is written.
+    /// That value.
     fn value(self) -> Self::Scale
         ensures { result ≡ says self };
 }
@@ -48,7 +48,8 @@ impl<'a, T: Truth> Listed<'a, T> {
     {
         place
             .and_then(|at| self.elements.list.get(at))
-            .map_or(0, |element| *element)
+            .copied()
+            .unwrap_or(0)
     }
 
     // The value at a place of the list, bottom for no place.
