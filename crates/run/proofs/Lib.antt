@@ -1,4 +1,3 @@
-pub mod Below
 pub mod Places
 pub mod Made
 pub mod Fleets

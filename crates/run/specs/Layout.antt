@@ -1,6 +1,7 @@
 -- How a table lists what names answer: first by the digit; then by the digit and an element; then by the digit and two elements.
 -- Assumes nothing.
-use Rattle.std.specs.Prelude.{ℕ, ◌+◌, ◌*◌, Bool, true, ◌&&◌, List, [], ◌∷◌, nat_lt}
+use Rattle.std.specs.Prelude.{ℕ, ◌+◌, ◌*◌, Bool, List, nat_lt}
+use Rattle.std.specs.List.{list_all}
 use Rattle.logic.specs.Text.{names}
 
 -- how many entries such a list has, of n elements
@@ -17,7 +18,6 @@ place1 n d a = names + (d * n + a)
 abbrev pub place2 : ℕ → ℕ → ℕ → ℕ → ℕ
 place2 n d a b = names + names * n + ((d * n + a) * n + b)
 
--- each number of the list is below n
+-- whether each number of the list is below n
 abbrev pub all_below : ℕ → List ℕ → Bool
-all_below n [] = true
-all_below n (x ∷ xs) = nat_lt x n && all_below n xs
+all_below n = list_all (λ x. nat_lt x n)

@@ -1,7 +1,7 @@
 pub mod Inside
 pub mod Checks
 pub mod Layout
-pub mod Tabled
+pub mod Listed
 pub mod Mileposts
 pub mod Tables
 pub mod Fleets

@@ -6,7 +6,7 @@ use Rattle.logic.specs.Structure.{Structure}
 use Rattle.scale.specs.declared.flag.Flag.{Flag}
 use Rattle.scale.specs.Flags.{flag}
 use Rattle.run.specs.declared.milepost.MilepostRun.{MilepostRun}
-use Rattle.run.specs.Checks.{first_of, sized}
+use Rattle.run.specs.Checks.{first_of, is_sized}
 use Rattle.run.specs.Inside.{most_elements, inside1, inside2, cond_lt, min_last_lt}
 
 -- f0(a) is the element behind a, or the last one
@@ -35,7 +35,7 @@ mileposts n some = record {
 
 -- what is wrong with the size of a milepost run
 abbrev pub milepost_fault : ℕ → Option Fault
-milepost_fault n = first_of ((sized most_elements n, SizeOutOfRange) ∷ [])
+milepost_fault n = first_of ((is_sized most_elements n, SizeOutOfRange) ∷ [])
 
 -- what a milepost run means
 abbrev pub milepost_view : MilepostRun → Structure Flag

@@ -1,10 +1,11 @@
 // Runs: finite records in which sentences have values.
 //
 //   milepost   a row of mileposts, computed
-//   table      a table of bytes, lent
-//   fleet      sixty-four tables that share their elements, lent
-//   elements   what constants and functions answer, by the bytes of a table
-//   checks     what making a run from bytes looks at
+//   listed     lists of what names answer, lent
+//   table      a listed run over the bytes of a table
+//   fleet      sixty-four tables that share their elements, a listed run over bytes and words
+//   layout     where a list has what names answer
+//   checks     what making a run looks at
 #![tactic(auto)]
 
 ghost use Rattle.std.specs.Prelude.{◌≡◌, ◌≤◌, false};
@@ -14,12 +15,14 @@ ghost use Rattle.run.specs.Inside.{most_elements, inside0, inside1, inside2};
 use scale::Answers;
 
 mod checks;
-mod elements;
 mod fleet;
+mod layout;
+mod listed;
 mod milepost;
 mod table;
 
 pub use fleet::{FleetRun, MOST_IN_FLEET};
+pub use listed::{Listed, Truth};
 pub use milepost::MilepostRun;
 pub use table::{MOST_IN_TABLE, TableRun};
 

@@ -1,6 +1,5 @@
 // Runs at their limits, and values in them.
 use fault::Fault;
-use formula::Formula;
 use judge::{CELLS, breadth, weight};
 use reader::read_formula;
 use run::{FleetRun, MilepostRun, Run, TableRun};
@@ -22,13 +21,14 @@ fn filled(heap: Global, size: u8, count: usize, place: usize, byte: u8) -> Resul
 
 #[test]
 fn mileposts(rt: HostRuntime) -> Result<(), Fail> {
-    for (size, fault) in [(0, true), (1, false), (64, false), (65, true)] {
-        let expected = if fault {
-            Some(Fault::SizeOutOfRange)
-        } else {
-            None
-        };
-        assert_eq!(rt; MilepostRun::new(size).err(), expected);
+    let cases = [
+        (0, Some(Fault::SizeOutOfRange)),
+        (1, None),
+        (64, None),
+        (65, Some(Fault::SizeOutOfRange)),
+    ];
+    for (size, fault) in cases {
+        assert_eq!(rt; MilepostRun::new(size).err(), fault);
     }
     let run = MilepostRun::new(64)?;
     assert_eq!(rt; run.apply1(0, 62), 63);
@@ -38,18 +38,9 @@ fn mileposts(rt: HostRuntime) -> Result<(), Fail> {
     Ok(())
 }
 
-// What making a table answers.
-fn table_fault(bytes: &[u8]) -> Option<Fault> {
-    TableRun::new(bytes).err()
-}
-
-fn fleet_fault<'a>(bytes: &'a [u8], words: &'a [u64]) -> Option<Fault> {
-    FleetRun::new(bytes, words).err()
-}
-
 #[test]
 fn table_sizes(rt: HostRuntime) -> Result<(), Fail> {
-    assert_eq!(rt; table_fault(&[]), Some(Fault::WrongCount));
+    assert_eq!(rt; TableRun::new(&[]).err(), Some(Fault::WrongCount));
     let cases = [
         (0, 17, Some(Fault::SizeOutOfRange)),
         (1, 49, None),
@@ -61,7 +52,7 @@ fn table_sizes(rt: HostRuntime) -> Result<(), Fail> {
     ];
     for (size, count, fault) in cases {
         let bytes = filled(rt.alloc(), size, count, 0, 0)?;
-        assert_eq!(rt; table_fault(&bytes), fault);
+        assert_eq!(rt; TableRun::new(&bytes).err(), fault);
     }
     Ok(())
 }
@@ -81,14 +72,14 @@ fn table_bytes(rt: HostRuntime) -> Result<(), Fail> {
     ];
     for (place, byte, fault) in cases {
         let bytes = filled(rt.alloc(), 3, 209, place, byte)?;
-        assert_eq!(rt; table_fault(&bytes), fault);
+        assert_eq!(rt; TableRun::new(&bytes).err(), fault);
     }
     Ok(())
 }
 
 #[test]
 fn fleets(rt: HostRuntime) -> Result<(), Fail> {
-    assert_eq!(rt; fleet_fault(&[], &[]), Some(Fault::WrongCount));
+    assert_eq!(rt; FleetRun::new(&[], &[]).err(), Some(Fault::WrongCount));
     let cases = [
         (0, 9, 8, 0, Some(Fault::SizeOutOfRange)),
         (1, 25, 24, 0, None),
@@ -104,20 +95,9 @@ fn fleets(rt: HostRuntime) -> Result<(), Fail> {
     for (size, count, more, last, fault) in cases {
         let bytes = filled(rt.alloc(), size, count, count.saturating_sub(1), last)?;
         let words = vec![in rt.alloc(); u64::MAX; more]?;
-        assert_eq!(rt; fleet_fault(&bytes, &words), fault);
+        assert_eq!(rt; FleetRun::new(&bytes, &words).err(), fault);
     }
     Ok(())
-}
-
-// The weights with cells enough.
-fn flag_weight(run: &MilepostRun, formula: &Formula) -> Option<Flag> {
-    let mut cells = [Flag::bottom(); CELLS];
-    weight(run, formula, &mut cells)
-}
-
-fn word_weight(run: &FleetRun, formula: &Formula) -> Option<Word> {
-    let mut cells = [Word::bottom(); CELLS];
-    weight(run, formula, &mut cells)
 }
 
 #[test]
@@ -133,7 +113,10 @@ fn weighed(rt: HostRuntime) -> Result<(), Fail> {
     ];
     for (text, value) in cases {
         let formula = read_formula(rt.alloc(), text.as_bytes())?;
-        assert_eq!(rt; flag_weight(&run, &formula), Some(Flag { value }));
+        assert_eq!(rt;
+            weight(&run, &formula, &mut [Flag::bottom(); CELLS]),
+            Some(Flag { value })
+        );
     }
     let formula = read_formula(rt.alloc(), b"-p0")?;
     assert_eq!(rt;
@@ -158,7 +141,10 @@ fn weighed_in_a_fleet(rt: HostRuntime) -> Result<(), Fail> {
         ("-Ax0q0(x0)", u64::MAX - 0b10),
     ] {
         let formula = read_formula(rt.alloc(), text.as_bytes())?;
-        assert_eq!(rt; word_weight(&run, &formula), Some(Word::new(bits)));
+        assert_eq!(rt;
+            weight(&run, &formula, &mut [Word::bottom(); CELLS]),
+            Some(Word::new(bits))
+        );
     }
     Ok(())
 }
