@@ -28,19 +28,21 @@ pub enum Class {
     Some,
 }
 
-impl Class {
-    /// The class of a byte.
-    pub fn of(byte: u8) -> Class
-        ensures { class result ≡ class_of byte }
-    {
+/// The class of a byte.
+impl From<u8> for Class {
+    ghost from_gives = { λ byte result. class result ≡ class_of byte };
+
+    fn from(byte: u8) -> Class {
         Class::in_table(&CLASSES, byte)
     }
+}
 
+impl Class {
     /// Whether a byte is of this class.
     pub fn has(self, byte: u8) -> bool
         ensures { result ≡ is (class_of byte) (class self) }
     {
-        Class::of(byte) == self
+        Class::from(byte) == self
     }
 
     // The class that a table has for a byte: its rule, where the table follows it.
