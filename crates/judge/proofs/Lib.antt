@@ -1,3 +1,5 @@
 pub mod Counted
-pub mod Examples
+pub mod Joins
 pub mod Cells
+pub mod Loops
+pub mod Examples

@@ -1,2 +1,4 @@
 pub mod Weighing
+pub mod Join
+pub mod Interpretation
 pub mod Examples

@@ -6,7 +6,7 @@ ghost use Rattle.logic.specs.Weight.{zeros};
 use sign::{NAMES, Name};
 
 /// An element for each variable.
-#[derive(Clone, Copy)]
+#[derive(Clone, Copy, Debug, PartialEq, Eq)]
 pub struct Assignment {
     pub elements: [u8; NAMES],
 }

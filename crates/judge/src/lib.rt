@@ -2,6 +2,7 @@
 //
 //   assignment  elements for the variables
 //   measures    how broad a formula is
+//   join        the two ways in which values are joined
 //   values      the value at an assignment
 //   weights     the values at all assignments together
 #![tactic(auto)]
@@ -9,6 +10,7 @@
 ghost use Rattle.judge.specs.Examples.{Examples};
 
 mod assignment;
+mod join;
 mod measures;
 mod values;
 mod weights;

@@ -1,11 +1,10 @@
 // How broad a formula is.
-ghost use Rattle.std.specs.Prelude.{◌≡◌, ◌-◌, ◌^◌, min};
+ghost use Rattle.std.specs.Prelude.{◌≡◌, ◌-◌, ◌^◌, min, count_by};
 ghost use Rattle.logic.specs.Text.{names};
 ghost use Rattle.logic.specs.Breadth.{nesting as nesting_of, free_below, breadth as breadth_of};
 ghost use Rattle.formula.specs.View.{formula};
 
 use formula::Formula;
-use sign::NAMES;
 
 /// The number of different free variables plus the deepest nesting of quantifiers; `usize::MAX` where it is more than that.
 pub fn breadth(f: &Formula) -> usize
@@ -30,12 +29,12 @@ fn nesting(f: &Formula) -> usize
 fn free_count(f: &Formula) -> usize
     ensures { result ≡ free_below names (formula f.now) }
 {
-    let free = f.free_variables();
-    let mut count = 0;
-    for digit in 0..NAMES {
-        if free.holds[digit] {
-            count += 1;
-        }
-    }
-    count
+    marked(&f.free_variables().holds)
+}
+
+// How many marks are set.
+fn marked(marks: &[bool]) -> usize
+    ensures { result ≡ count_by (λ m. m) marks.now }
+{
+    marks.iter().filter(|m| **m).count()
 }

@@ -1,10 +1,14 @@
 // The value of a formula at an assignment, in any run.
 ghost use Rattle.std.specs.Prelude.{◌≡◌};
 ghost use Rattle.logic.specs.Assignment.{assign, listed};
-ghost use Rattle.logic.specs.Value.{meet, join, element as element_of, value as value_of};
+ghost use Rattle.logic.specs.Syntax.{quantified};
+ghost use Rattle.logic.specs.Value.{connect, element as element_of, value as value_of};
 ghost use Rattle.formula.specs.View.{term, formula};
+ghost use Rattle.judge.specs.Interpretation.{element_in, value_in};
+ghost use Rattle.judge.specs.Join.{connective, quantifier};
 
 use crate::assignment::Assignment;
+use crate::join::Join;
 use formula::{Formula, Term};
 use run::Run;
 use scale::Answers;
@@ -12,88 +16,100 @@ use sign::{Connective, Name, Quantifier};
 
 /// The element that a term stands for.
 pub fn element<R: Run>(run: &R, t: &Term, at: Assignment) -> u8
-    ensures { result ≡ element_of (R.Run.meaning run.now) (listed at.elements) (term t.now) }
+    ensures { result ≡ element_of (R.meaning run.now) (listed at.elements) (term t.now) }
 {
-    match t {
-        Term::Variable(x) => at.element(*x),
-        Term::Constant(c) => run.constant(c.digit),
-        Term::Apply1(f, s) => run.apply1(f.digit, element(run, s, at)),
-        Term::Apply2(f, s, t) => run.apply2(f.digit, element(run, s, at), element(run, t, at)),
-    }
+    Interpretation { run, at }.element(t)
 }
 
 /// The value of a formula.
-#[cycle(both_either_every_some_value)]
 pub fn value<R: Run>(run: &R, f: &Formula, at: Assignment) -> R::Scale
-    ensures { result ≡ value_of R.Scale.Answers.algebra (R.Run.meaning run.now) (listed at.elements) (formula f.now) }
+    ensures { result ≡ value_of R.Scale.algebra (R.meaning run.now) (listed at.elements) (formula f.now) }
 {
-    match f {
-        Formula::Predicate0(p) => run.predicate0(p.digit),
-        Formula::Predicate1(p, s) => run.predicate1(p.digit, element(run, s, at)),
-        Formula::Predicate2(p, s, t) => run.predicate2(
-            p.digit,
-            element(run, s, at),
-            element(run, t, at),
-        ),
-        Formula::Not(a) => value(run, a, at).not(),
-        Formula::Binary(Connective::And, a, b) => both(run, value(run, a, at), b, at),
-        Formula::Binary(Connective::Or, a, b) => either(run, value(run, a, at), b, at),
-        Formula::Binary(Connective::Implies, a, b) => either(run, value(run, a, at).not(), b, at),
-        Formula::Quantified(Quantifier::Every, x, a) => every(run, *x, a, at),
-        Formula::Quantified(Quantifier::Some, x, a) => some(run, *x, a, at),
-    }
+    Interpretation { run, at }.value(f)
 }
 
-// The value so far and the formula's. Where the denial is top, the formula's changes nothing.
-#[cycle(both_either_every_some_value)]
-fn both<R: Run>(run: &R, left: R::Scale, b: &Formula, at: Assignment) -> R::Scale
-    ensures { result ≡ R.Scale.Answers.algebra.and left (value_of R.Scale.Answers.algebra (R.Run.meaning run.now) (listed at.elements) (formula b.now)) }
-{
-    if left.not().is_top() {
-        left
-    } else {
-        left.and(value(run, b, at))
-    }
+/// A run, and an element for each variable.
+#[derive_where(Clone, Copy)]
+pub struct Interpretation<'a, R> {
+    pub run: &'a R,
+    pub at: Assignment,
 }
 
-// The value so far or the formula's. Where it is top, the formula's changes nothing.
-#[cycle(both_either_every_some_value)]
-fn either<R: Run>(run: &R, left: R::Scale, b: &Formula, at: Assignment) -> R::Scale
-    ensures { result ≡ R.Scale.Answers.algebra.or left (value_of R.Scale.Answers.algebra (R.Run.meaning run.now) (listed at.elements) (formula b.now)) }
-{
-    if left.is_top() {
-        left
-    } else {
-        left.or(value(run, b, at))
-    }
-}
-
-// The values with each element for the variable, joined by `and`. Where the denial is top, the rest changes nothing.
-#[cycle(both_either_every_some_value)]
-fn every<R: Run>(run: &R, x: Name, a: &Formula, at: Assignment) -> R::Scale
-    ensures { result ≡ meet R.Scale.Answers.algebra (λ e. value_of R.Scale.Answers.algebra (R.Run.meaning run.now) (assign (listed at.elements) x.digit e) (formula a.now)) (R.Run.meaning run.now).size }
-{
-    let mut all = R::Scale::top();
-    for e in 0..run.size() {
-        all = all.and(value(run, a, at.with(x, e)));
-        if all.not().is_top() {
-            return all;
+impl<'a, R: Run> Interpretation<'a, R> {
+    /// The same, but with this element for the variable.
+    pub fn with(&self, variable: Name, element: u8) -> Interpretation<'a, R>
+        ensures same { result.run.now ≡ self.now.run.now }
+        ensures changed { listed result.at.elements ≡ assign (listed self.now.at.elements) variable.digit element }
+    {
+        Interpretation {
+            run: self.run,
+            at: self.at.with(variable, element),
         }
     }
-    all
-}
 
-// The values with each element for the variable, joined by `or`. Where that is top, the rest changes nothing.
-#[cycle(both_either_every_some_value)]
-fn some<R: Run>(run: &R, x: Name, a: &Formula, at: Assignment) -> R::Scale
-    ensures { result ≡ join R.Scale.Answers.algebra (λ e. value_of R.Scale.Answers.algebra (R.Run.meaning run.now) (assign (listed at.elements) x.digit e) (formula a.now)) (R.Run.meaning run.now).size }
-{
-    let mut any = R::Scale::bottom();
-    for e in 0..run.size() {
-        any = any.or(value(run, a, at.with(x, e)));
-        if any.is_top() {
-            return any;
+    /// The element that a term stands for.
+    pub fn element(&self, t: &Term) -> u8
+        ensures { result ≡ element_in R.meaning self.now (term t.now) }
+    {
+        match t {
+            Term::Variable(x) => self.at.element(*x),
+            Term::Constant(c) => self.run.constant(c.digit),
+            Term::Apply1(f, s) => self.run.apply1(f.digit, self.element(s)),
+            Term::Apply2(f, s, t) => self.run.apply2(f.digit, self.element(s), self.element(t)),
         }
     }
-    any
+
+    /// The value of a formula.
+    #[cycle(values)]
+    pub fn value(&self, f: &Formula) -> R::Scale
+        ensures { result ≡ value_in R.Scale.algebra R.meaning self.now (formula f.now) }
+    {
+        match f {
+            Formula::Predicate0(p) => self.run.predicate0(p.digit),
+            Formula::Predicate1(p, s) => self.run.predicate1(p.digit, self.element(s)),
+            Formula::Predicate2(p, s, t) => self
+                .run
+                .predicate2(p.digit, self.element(s), self.element(t)),
+            Formula::Not(a) => self.value(a).not(),
+            Formula::Binary(connective, a, b) => {
+                let left = self.value(a);
+                match connective {
+                    Connective::And => self.connected(Join::And, left, b),
+                    Connective::Or => self.connected(Join::Or, left, b),
+                    Connective::Implies => self.connected(Join::Or, left.not(), b),
+                }
+            }
+            Formula::Quantified(quantifier, x, a) => match quantifier {
+                Quantifier::Every => self.quantified(Join::And, *x, a),
+                Quantifier::Some => self.quantified(Join::Or, *x, a),
+            },
+        }
+    }
+
+    // The value so far joined with that of a formula, which is not asked for where the value so far is settled.
+    #[cycle(values)]
+    fn connected(&self, join: Join, left: R::Scale, b: &Formula) -> R::Scale
+        ensures { result ≡ connect R.Scale.algebra (connective join) left (value_in R.Scale.algebra R.meaning self.now (formula b.now)) }
+    {
+        if join.is_settled(left) {
+            left
+        } else {
+            join.apply(left, self.value(b))
+        }
+    }
+
+    // The values with each element for the variable, joined. Where those so far are settled, no further element is asked for.
+    #[cycle(values)]
+    fn quantified(&self, join: Join, x: Name, a: &Formula) -> R::Scale
+        ensures { result ≡ value_in R.Scale.algebra R.meaning self.now (quantified (quantifier join) x.digit (formula a.now)) }
+    {
+        let mut joined = join.empty();
+        for e in 0..self.run.size() {
+            joined = join.apply(joined, self.with(x, e).value(a));
+            if join.is_settled(joined) {
+                return joined;
+            }
+        }
+        joined
+    }
 }
