@@ -1,20 +1,14 @@
 -- What weighing a formula goes by. Assumes nothing.
-use Rattle.std.specs.Prelude.{◌≡◌, ℕ, ◌<◌, false, slice_index_or}
-use Rattle.logic.specs.Syntax.{Formula, free}
-use Rattle.logic.specs.Text.{names}
+use Rattle.std.specs.Prelude.{ℕ}
+use Rattle.logic.specs.Syntax.{Formula}
 use Rattle.logic.specs.Algebra.{Algebra}
 use Rattle.logic.specs.Structure.{Structure}
 use Rattle.logic.specs.Value.{value}
 use Rattle.logic.specs.Weight.{everywhere}
-use Rattle.sign.specs.declared.variables.Variables.{Variables}
 
 -- how many cells weighing asks for
 abbrev pub cells_wanted : ℕ
 cells_wanted = 64
-
--- the set has the variables that are free in the formula
-abbrev pub FreeIn : Variables → Formula → Type 0
-FreeIn vs a = (v : ℕ) → v < names → slice_index_or vs.holds v false ≡ free v a
 
 -- the values at all assignments of elements to the variables below n that are ρ elsewhere, joined by `and`
 abbrev pub weight_below : {V : Type 0} → Algebra V → Structure V → Formula → ℕ → (ℕ → ℕ) → V

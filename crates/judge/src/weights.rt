@@ -1,10 +1,12 @@
 // The values of a formula at all assignments together, by loops over its free variables only.
 ghost use Rattle.std.specs.Prelude.{◌≡◌, ◌≤◌, ◌↔◌, length, drop, IsSome, IsNone, IfSome};
 ghost use Rattle.logic.specs.Assignment.{listed};
+ghost use Rattle.logic.specs.Syntax.{free as is_free};
 ghost use Rattle.logic.specs.Text.{names};
 ghost use Rattle.logic.specs.Weight.{weight as weight_of};
+ghost use Rattle.sign.specs.Sets.{IsSetOf};
 ghost use Rattle.formula.specs.View.{formula};
-ghost use Rattle.judge.specs.Weighing.{cells_wanted, FreeIn, weight_below};
+ghost use Rattle.judge.specs.Weighing.{cells_wanted, weight_below};
 
 use crate::assignment::Assignment;
 use crate::join::Join;
@@ -41,7 +43,7 @@ pub fn weight<R: Run>(run: &R, f: &Formula, cells: &mut [R::Scale]) -> Option<R:
 struct Body<'a> {
     f: &'a Formula,
     free: Variables,
-    ghost marks: { FreeIn free (formula f.now) },
+    ghost marks: { IsSetOf (λ x. is_free x (formula f.now)) free },
 }
 
 impl<R: Run> Interpretation<'_, R> {
