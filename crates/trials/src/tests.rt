@@ -1,5 +1,5 @@
 // Each text with what reading it answers.
-use fault::{Fault, Source};
+use fault::{Fault, Misreading, Source};
 use printer::{print, text_len};
 use reader::{read_formula, read_term};
 use std::test::Fail;
@@ -23,21 +23,22 @@ p0))&(p0&(p0&p0)))&((p0&(p0&p0))&((p0&p0)&(p0&p0))))&(((p0&(p0&p0))&(p0&(p0&p0))
 
 #[test]
 fn refused(rt: HostRuntime) {
-    let formula = Source::Formula;
     let cases = [
-        ("", Fault::EndsEarly(formula, 0)),
-        ("q0(x8)", Fault::NotAllowed(formula, 4)),
-        ("q0(c0)p", Fault::AfterEnd(formula, 6)),
-        ("(p0&p1", Fault::EndsEarly(formula, 6)),
-        ("x0", Fault::NotAllowed(formula, 0)),
-        ("------------------------p0", Fault::TooDeep(formula, 24)),
+        ("", Misreading::EndsEarly, 0),
+        ("q0(x8)", Misreading::NotAllowed, 4),
+        ("q0(c0)p", Misreading::AfterEnd, 6),
+        ("(p0&p1", Misreading::EndsEarly, 6),
+        ("x0", Misreading::NotAllowed, 0),
+        ("------------------------p0", Misreading::TooDeep, 24),
         (
             "q0(f0(f0(f0(f0(f0(f0(f0(f0(f0(f0(f0(f0(f0(f0(f0(f0(f0(f0(f0(f0(f0(f0(f0(x0))))))))))))))))))))))))",
-            Fault::TooDeep(formula, 72),
+            Misreading::TooDeep,
+            72,
         ),
-        (OVERFULL, Fault::TooMany(formula, 493)),
+        (OVERFULL, Misreading::TooMany, 493),
     ];
-    for (text, fault) in cases {
+    for (text, what, place) in cases {
+        let fault = Fault::Reading(what, Source::Formula, place);
         assert_eq!(rt;
             read_formula(rt.alloc(), text.as_bytes()).err(),
             Some(fault)
@@ -69,17 +70,18 @@ fn read(rt: HostRuntime) -> Result<(), Fail> {
 
 #[test]
 fn terms(rt: HostRuntime) -> Result<(), Fail> {
-    let term = Source::Term;
     let cases = [
-        ("", Fault::EndsEarly(term, 0)),
-        ("f0(p0)", Fault::NotAllowed(term, 3)),
-        ("c0,", Fault::AfterEnd(term, 2)),
+        ("", Misreading::EndsEarly, 0),
+        ("f0(p0)", Misreading::NotAllowed, 3),
+        ("c0,", Misreading::AfterEnd, 2),
         (
             "f0(f0(f0(f0(f0(f0(f0(f0(f0(f0(f0(f0(f0(f0(f0(f0(f0(f0(f0(f0(f0(f0(f0(f0(x0))))))))))))))))))))))))",
-            Fault::TooDeep(term, 72),
+            Misreading::TooDeep,
+            72,
         ),
     ];
-    for (text, fault) in cases {
+    for (text, what, place) in cases {
+        let fault = Fault::Reading(what, Source::Term, place);
         assert_eq!(rt; read_term(rt.alloc(), text.as_bytes()).err(), Some(fault));
     }
     let deepest =
@@ -103,10 +105,7 @@ fn printed(rt: HostRuntime) -> Result<(), Fail> {
     let formula = read_formula(rt.alloc(), text.as_bytes())?;
     assert_eq!(rt; text_len(&formula), 36);
     let mut short = [7u8; 35];
-    assert_eq!(rt;
-        print(&formula, &mut short),
-        Err(Fault::BufferShort)
-    );
+    assert_eq!(rt; print(&formula, &mut short), Err(Fault::BufferShort));
     assert!(rt; short == [7u8; 35]);
     let mut exact = [7u8; 36];
     assert_eq!(rt; print(&formula, &mut exact), Ok(36));
@@ -114,5 +113,17 @@ fn printed(rt: HostRuntime) -> Result<(), Fail> {
     assert_eq!(rt; print(&formula, &mut out), Ok(36));
     assert!(rt; &out[0..36] == text.as_bytes());
     assert!(rt; out[36] == 7 && out[37] == 7);
+    Ok(())
+}
+
+#[test]
+fn printed_term(rt: HostRuntime) -> Result<(), Fail> {
+    let text = "g1(c2,f5(x3))";
+    let term = read_term(rt.alloc(), text.as_bytes())?;
+    assert_eq!(rt; text_len(&term), 13);
+    assert_eq!(rt; print(&term, &mut [7u8; 12]), Err(Fault::BufferShort));
+    let mut exact = [7u8; 13];
+    assert_eq!(rt; print(&term, &mut exact), Ok(13));
+    assert!(rt; &exact[..] == text.as_bytes());
     Ok(())
 }
