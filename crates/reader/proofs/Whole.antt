@@ -1,9 +1,11 @@
 -- From the last step of a reader to what is told of the whole text. Assumes nothing.
-use Rattle.std.proofs.Common.{◌≡◌, ℕ, ◌<◌, ◌≤◌, true, false, ltb, List, length, Err, Result, sym, refl, ap, ◌∙◌, MatchResult}
+use Rattle.std.proofs.Common.{◌≡◌, ℕ, ◌<◌, ◌≤◌, true, false, ltb, List, length, Ok, Err, Result, sym, refl, ap, ◌∙◌, MatchResult, arith}
 use Rattle.std.proofs.lemmas.Bool.{lt-ltb, le-ltb}
 use Rattle.logic.specs.Reading.{Out, got, reads, closed}
 use Rattle.reader.specs.Answers.{Failed}
+use Rattle.reader.specs.Steps.{Step, Alone}
 use Rattle.reader.specs.Told.{Tells}
+use Rattle.reader.specs.declared.Reader.{Reader}
 use Rattle.fault.proofs.Mapped.{mapped}
 use Rattle.fault.specs.declared.fault.Source.{Source}
 use Rattle.fault.specs.declared.fault.Misreading.TheVariants.{AfterEnd}
@@ -12,10 +14,6 @@ use Rattle.fault.specs.declared.fault.Fault.TheVariants.{Reading}
 
 failed_tells : {A : Type 0} (bytes : List ℕ) (s : Source) (e : Fault) (o : Out A) → Failed s e o → Tells s (closed bytes o) e
 failed_tells bytes s e o = mapped _ _ (λ m r i h. (h.0, ap (closed bytes) h.1)) e
-
--- what the exit of a `?` answers
-pub told_err : {X : Type 0} (r : Result X Fault) (P : X → Type 0) (Q : Fault → Type 0) (x e : Fault) → r ≡ Err x → x ≡ e → Q e → MatchResult r P Q
-told_err r P Q x e p q h = rw (p, q) h
 
 -- F reads from the front: the reader's bytes are the text, and it began at place 0 with no part
 module _ {A : Type 0} (F : List ℕ → ℕ → ℕ → Out A) (bytes held : List ℕ) (at n : ℕ) (same : held ≡ bytes) (front : at ≡ 0) (fresh : n ≡ 0) where
@@ -34,3 +32,16 @@ module _ {A : Type 0} (F : List ℕ → ℕ → ℕ → Out A) (bytes held : Lis
 
   pub told_fault : (s q : Source) (e : Fault) → q ≡ s → Failed q e (F held at n) → Tells s (closed bytes (F bytes 0 0)) e
   told_fault s q e of h = rw (← begun_so, ← of) (failed_tells bytes q e (F held at n) h)
+
+-- what is told where the reader takes all from the front, and then nothing may follow
+pub told_whole : {X A : Type 0} (view : X → A) (F : List ℕ → ℕ → ℕ → Out A) (bytes : List ℕ) (s : Source) (begun after : Reader) (taken r : Result X Fault)
+    → begun.bytes.now ≡ bytes → begun.source ≡ s → begun.at ≡ 0 → begun.parts ≡ 0 → Step view F begun after taken → Alone taken after r
+    → MatchResult r (λ x. closed bytes (F bytes 0 0) ≡ reads (view x)) (Tells s (closed bytes (F bytes 0 0)))
+told_whole view F bytes s begun after (Err f) r same of front fresh step end =
+    rw end (told_fault F bytes begun.bytes.now begun.at begun.parts same front fresh s begun.source f of step.2)
+told_whole view F bytes s begun after (Ok x) (Ok y) same of front fresh step end =
+    rw end.0 (told_tree F bytes begun.bytes.now begun.at begun.parts same front fresh (view x) after.at after.parts step.2
+    (omega (arith, ap (λ z. length z.now) step.0, end.1)))
+told_whole view F bytes s begun after (Ok x) (Err e) same of front fresh step end =
+    rw end.1 (told_after F bytes begun.bytes.now begun.at begun.parts same front fresh s after.source (view x) after.at after.parts (step.1 ∙ of) step.2
+    (omega (arith, ap (λ z. length z.now) step.0, end.0)))

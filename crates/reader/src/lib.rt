@@ -8,10 +8,10 @@ ghost use Rattle.sign.specs.Table.{class};
 ghost use Rattle.formula.specs.View.{term, pair, formula};
 ghost use Rattle.reader.specs.Heads.{digit_of, head_of, opening_of};
 ghost use Rattle.reader.specs.Answers.{same};
-ghost use Rattle.reader.specs.Steps.{Step};
+ghost use Rattle.reader.specs.Steps.{Step, Alone};
 ghost use Rattle.reader.specs.Told.{FormulaRead, TermRead};
 ghost use Rattle.fault.specs.declared.fault.Fault.TheVariants.{Reading};
-ghost use Rattle.fault.specs.declared.fault.Misreading.TheVariants.{EndsEarly, AfterEnd};
+ghost use Rattle.fault.specs.declared.fault.Misreading.TheVariants.{EndsEarly};
 
 use fault::{Fault, Misreading, Source};
 use formula::{Formula, Term};
@@ -29,9 +29,8 @@ pub fn read_formula(heap: Global, bytes: &[u8]) -> Result<Formula, Fault>
     ensures { FormulaRead bytes.now result }
 {
     let mut reader = Reader::new(heap, bytes, Source::Formula);
-    let formula = reader.formula(MOST_LEVELS)?;
-    reader.end()?;
-    Ok(formula)
+    let taken = reader.formula(MOST_LEVELS);
+    reader.alone(taken)
 }
 
 /// The term that the bytes are the text of.
@@ -39,9 +38,8 @@ pub fn read_term(heap: Global, bytes: &[u8]) -> Result<Term, Fault>
     ensures { TermRead bytes.now result }
 {
     let mut reader = Reader::new(heap, bytes, Source::Term);
-    let term = reader.term(MOST_LEVELS)?;
-    reader.end()?;
-    Ok(term)
+    let taken = reader.term(MOST_LEVELS);
+    reader.alone(taken)
 }
 
 // The clauses of the steps below have the number of `MOST_PARTS` itself: with its name the search does not close.
@@ -108,14 +106,15 @@ impl Reader<'_> {
         byte.ok_or(self.fault(Misreading::EndsEarly))
     }
 
-    // Nothing stands behind what was read.
-    fn end(&self) -> Result<(), Fault>
-        ensures { MatchResult result (λ _. length self.now.bytes.now ≤ self.now.at) (λ e. (self.now.at < length self.now.bytes.now) × (e ≡ Reading AfterEnd self.now.source self.now.at)) }
+    // What was taken, where nothing stands behind it.
+    fn alone<T: Drop>(&self, taken: Result<T, Fault>) -> Result<T, Fault>
+        ensures { Alone taken self.now result }
     {
+        let tree = taken?;
         if self.at < self.bytes.len() {
             return Err(self.fault(Misreading::AfterEnd));
         }
-        Ok(())
+        Ok(tree)
     }
 
     // Takes a digit.
