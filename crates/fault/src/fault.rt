@@ -86,11 +86,7 @@ impl Fault {
     {
         match self {
             Fault::Reading(_, _, place) => *place,
-            Fault::SizeOutOfRange
-            | Fault::WrongCount
-            | Fault::ElementOutOfRange
-            | Fault::NotATruthValue => 0,
-            Fault::BufferShort | Fault::Memory => 0,
+            _ => 0,
         }
     }
 

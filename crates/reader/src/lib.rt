@@ -1,7 +1,7 @@
 // Trees from bytes.
 #![tactic(auto)]
 
-ghost use Rattle.std.specs.Prelude.{◌≡◌, ◌<◌, ◌≤◌, length, MatchResult, OnOk, slice_index};
+ghost use Rattle.std.specs.Prelude.{◌≡◌, ◌<◌, ◌≤◌, length, OnOk, IfOk, IfErr, slice_index};
 ghost use Rattle.logic.specs.Reading as reading;
 ghost use Rattle.sign.specs.View.{connective, quantifier};
 ghost use Rattle.sign.specs.Table.{class};
@@ -100,7 +100,8 @@ impl Reader<'_> {
 
     // The next byte.
     fn byte(&self) -> Result<u8, Fault>
-        ensures { MatchResult result (λ b. (self.now.at < length self.now.bytes.now) × (b ≡ slice_index self.now.bytes.now self.now.at)) (λ e. (length self.now.bytes.now ≤ self.now.at) × (e ≡ Reading EndsEarly self.now.source self.now.at)) }
+        ensures there { IfOk result (λ b. (self.now.at < length self.now.bytes.now) × (b ≡ slice_index self.now.bytes.now self.now.at)) }
+        ensures past { IfErr result (λ e. (length self.now.bytes.now ≤ self.now.at) × (e ≡ Reading EndsEarly self.now.source self.now.at)) }
     {
         let byte = self.bytes.get(self.at).copied();
         byte.ok_or(self.fault(Misreading::EndsEarly))
@@ -162,11 +163,11 @@ impl Reader<'_> {
         ensures deep { OnOk result (0 < left) }
         ensures read { Step head_of (reading.head 200 left) self.old self.new result }
     {
-        let head = match self.byte()? as char {
-            'x' => Head::Variable,
-            'c' => Head::Constant,
-            'f' => Head::Apply1,
-            'g' => Head::Apply2,
+        let head = match self.byte()? {
+            b'x' => Head::Variable,
+            b'c' => Head::Constant,
+            b'f' => Head::Apply1,
+            b'g' => Head::Apply2,
             _ => return Err(self.fault(Misreading::NotAllowed)),
         };
         self.part(left)?;
@@ -178,14 +179,14 @@ impl Reader<'_> {
         ensures deep { OnOk result (0 < left) }
         ensures read { Step opening_of (reading.opening 200 left) self.old self.new result }
     {
-        let opening = match self.byte()? as char {
-            'p' => Opening::Predicate0,
-            'q' => Opening::Predicate1,
-            'r' => Opening::Predicate2,
-            '-' => Opening::Not,
-            '(' => Opening::Bracket,
-            'A' => Opening::Quantified(Quantifier::Every),
-            'E' => Opening::Quantified(Quantifier::Some),
+        let opening = match self.byte()? {
+            b'p' => Opening::Predicate0,
+            b'q' => Opening::Predicate1,
+            b'r' => Opening::Predicate2,
+            b'-' => Opening::Not,
+            b'(' => Opening::Bracket,
+            b'A' => Opening::Quantified(Quantifier::Every),
+            b'E' => Opening::Quantified(Quantifier::Some),
             _ => return Err(self.fault(Misreading::NotAllowed)),
         };
         self.part(left)?;
@@ -196,10 +197,10 @@ impl Reader<'_> {
     fn connective(&mut self) -> Result<Connective, Fault>
         ensures { Step connective reading.connective self.old self.new result }
     {
-        let connective = match self.byte()? as char {
-            '&' => Connective::And,
-            '|' => Connective::Or,
-            '>' => Connective::Implies,
+        let connective = match self.byte()? {
+            b'&' => Connective::And,
+            b'|' => Connective::Or,
+            b'>' => Connective::Implies,
             _ => return Err(self.fault(Misreading::NotAllowed)),
         };
         self.at += 1;
@@ -210,7 +211,7 @@ impl Reader<'_> {
     fn bound(&mut self) -> Result<Name, Fault>
         ensures { Step digit_of reading.bound self.old self.new result }
     {
-        let 'x' = self.byte()? as char else {
+        let b'x' = self.byte()? else {
             return Err(self.fault(Misreading::NotAllowed));
         };
         self.at += 1;

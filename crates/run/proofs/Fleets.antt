@@ -142,7 +142,9 @@ fleet_made bytes words faultless =
     let wide = (counted bytes words pass.count).1 in
     record {
       faultless = faultless;
-      meaning = refl;
+      meaning = λ none.
+          let again = lists_pass most_in_fleet (fleet_counted bytes words) bytes [] none in
+          listed_same word_algebra.bottom word_of pass.some again.some pass.below again.below refl refl refl;
       elements = says_elements word_algebra.bottom word_of bytes words pass.some pass.below;
       truths =
           says_truths word_algebra.bottom word_of bytes words pass.some pass.below (λ i. word_of (get_or words i 0))

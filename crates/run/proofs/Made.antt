@@ -1,5 +1,5 @@
 -- What a run of well-formed bytes says. Assumes nothing.
-use Rattle.std.proofs.Common.{◌≡◌, ℕ, ◌+◌, ◌*◌, ◌<◌, ◌≤◌, Bool, true, false, cond, not, eqb, List, ◌∷◌, ◌++◌, length, get_or, take, drop, Some, None, sym, refl, ap, ◌∙◌, subst, ap₂, arith}
+use Rattle.std.proofs.Common.{◌≡◌, ℕ, ◌+◌, ◌*◌, ◌<◌, ◌≤◌, Bool, true, false, cond, not, eqb, List, ◌∷◌, length, get_or, take, drop, Some, None, sym, refl, ap, ◌∙◌, subst, ap₂, arith}
 use Rattle.std.proofs.Math.Bridge.{le_prop}
 use mathlib.Core.Bool.{Bool-set}
 use Rattle.std.specs.Option.{option_map_or}
@@ -76,7 +76,7 @@ past a b c d e₁ e₂ e₃ e₄ more h k l m = rw (h, k, l, m) refl
 -- nor do those of lists that pass
 pub lists_past : (most : ℕ) (counted : Bool) (bytes : List ℕ) (more : List (Bool × Fault)) →
     not (eqb (length bytes) 0) ≡ true → is_sized most (size_in bytes) ≡ true → counted ≡ true →
-    all_below (size_in bytes) (elements_in bytes) ≡ true → first_of (list_tests most counted bytes ++ more) ≡ first_of more
+    all_below (size_in bytes) (elements_in bytes) ≡ true → first_of (list_tests most counted bytes more) ≡ first_of more
 lists_past most counted bytes more =
     past (not (eqb (length bytes) 0)) (is_sized most (size_in bytes)) counted (all_below (size_in bytes) (elements_in bytes))
     WrongCount SizeOutOfRange WrongCount ElementOutOfRange more
@@ -93,7 +93,9 @@ table_made bytes faultless =
     let long : length bytes ≡ table_length n = eqb-true (length bytes) (table_length n) pass.count in
     record {
       faultless = faultless;
-      meaning = refl;
+      meaning = λ none.
+          let again = lists_pass most_in_table (table_counted bytes) bytes (truth_tests bytes) none in
+          listed_same (flag false) truth_of pass.some again.some pass.below again.below refl refl refl;
       elements = says_elements (flag false) truth_of bytes (truths_in bytes) pass.some pass.below;
       truths =
           says_truths (flag false) truth_of bytes (truths_in bytes) pass.some pass.below

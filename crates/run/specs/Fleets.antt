@@ -25,7 +25,7 @@ fleet_counted bytes words = length bytes == 1 + entries (size_in bytes) && (leng
 
 -- what is wrong with the bytes and words of a fleet
 abbrev pub fleet_fault : List ℕ → List ℕ → Option Fault
-fleet_fault bytes words = first_of (list_tests most_in_fleet (fleet_counted bytes words) bytes ++ [])
+fleet_fault bytes words = first_of (list_tests most_in_fleet (fleet_counted bytes words) bytes [])
 
 -- the word with the lowest 64 bits of a number: of a `u64`, all of them
 abbrev pub word_of : ℕ → Word
@@ -52,7 +52,7 @@ pub record IsRun (k : ℕ) (bytes words : List ℕ) (M : Structure Word) : Type 
 -- what comes of making a run of bytes and words that are a fleet
 pub record FleetMade (bytes words : List ℕ) (M : Structure Word) : Type 0 where
   pub faultless : fleet_fault bytes words ≡ None
-  pub meaning : M ≡ fleet_of bytes words faultless
+  pub meaning : (none : fleet_fault bytes words ≡ None) → M ≡ fleet_of bytes words none
   pub elements : SaysElements bytes M
   pub truths : SaysTruths (λ i. word_of (slice_index words i)) M
   pub runs : (k : ℕ) → k < 64 → IsRun k bytes words M

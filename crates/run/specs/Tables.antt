@@ -1,5 +1,5 @@
 -- Tables: which bytes are one, and what they say. Assumes nothing.
-use Rattle.std.specs.Prelude.{◌≡◌, ℕ, ◌+◌, ◌*◌, ◌<◌, ◌≤◌, Bool, true, false, not, List, [], ◌∷◌, ◌++◌, length, take, drop, None, Option, ◌==◌, slice_index, nat_le}
+use Rattle.std.specs.Prelude.{◌≡◌, ℕ, ◌+◌, ◌*◌, ◌<◌, ◌≤◌, Bool, true, false, not, List, [], ◌∷◌, length, take, drop, None, Option, ◌==◌, slice_index, nat_le}
 use Rattle.fault.specs.declared.fault.Fault.{Fault}
 use Rattle.fault.specs.declared.fault.Fault.TheVariants.{SizeOutOfRange, WrongCount, ElementOutOfRange, NotATruthValue}
 use Rattle.logic.specs.Text.{names}
@@ -24,14 +24,14 @@ abbrev pub truths_in : List ℕ → List ℕ
 truths_in bytes = drop (1 + entries (size_in bytes)) bytes
 
 -- there are bytes, the first is a size up to the most, the entries are counted, and those of constants and functions are
--- elements
-abbrev pub list_tests : ℕ → Bool → List ℕ → List (Bool × Fault)
-list_tests most counted bytes =
+-- elements; and more
+abbrev pub list_tests : ℕ → Bool → List ℕ → List (Bool × Fault) → List (Bool × Fault)
+list_tests most counted bytes more =
     (not (length bytes == 0), WrongCount)
     ∷ (is_sized most (size_in bytes), SizeOutOfRange)
     ∷ (counted, WrongCount)
     ∷ (all_below (size_in bytes) (elements_in bytes), ElementOutOfRange)
-    ∷ []
+    ∷ more
 
 -- what lists have that pass
 pub record ListsPass (most : ℕ) (counted : Bool) (bytes : List ℕ) : Type 0 where
@@ -41,7 +41,7 @@ pub record ListsPass (most : ℕ) (counted : Bool) (bytes : List ℕ) : Type 0 w
   pub below : all_below (size_in bytes) (elements_in bytes) ≡ true
 
 pub lists_pass : (most : ℕ) (counted : Bool) (bytes : List ℕ) (more : List (Bool × Fault)) →
-    first_of (list_tests most counted bytes ++ more) ≡ None → ListsPass most counted bytes
+    first_of (list_tests most counted bytes more) ≡ None → ListsPass most counted bytes
 lists_pass most counted bytes more h =
     let filled = passed (not (length bytes == 0)) WrongCount _ h in
     let sized = passed (is_sized most (size_in bytes)) SizeOutOfRange _ filled.1 in
@@ -73,7 +73,7 @@ truth_tests bytes = (all_below 2 (truths_in bytes), NotATruthValue) ∷ []
 
 -- what is wrong with the bytes of a table
 abbrev pub table_fault : List ℕ → Option Fault
-table_fault bytes = first_of (list_tests most_in_table (table_counted bytes) bytes ++ truth_tests bytes)
+table_fault bytes = first_of (list_tests most_in_table (table_counted bytes) bytes (truth_tests bytes))
 
 -- what a truth byte says: yes where it is 1
 abbrev pub truth_of : ℕ → Flag
@@ -101,6 +101,6 @@ pub record SaysTruths {V : Type 0} (truth : ℕ → V) (M : Structure V) : Type 
 -- what comes of making a run of bytes that are a table
 pub record TableMade (bytes : List ℕ) (M : Structure Flag) : Type 0 where
   pub faultless : table_fault bytes ≡ None
-  pub meaning : M ≡ table_of bytes faultless
+  pub meaning : (none : table_fault bytes ≡ None) → M ≡ table_of bytes none
   pub elements : SaysElements bytes M
   pub truths : SaysTruths (λ i. truth_of (slice_index bytes (1 + entries (size_in bytes) + i))) M

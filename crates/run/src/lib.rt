@@ -29,10 +29,11 @@ pub use table::{MOST_IN_TABLE, TableRun};
 /// How many elements a run has at most.
 pub const MOST_ELEMENTS: u8 = 64;
 
-/// A finite structure that is asked one question at a time. A question leaves the run as it is. One about a name past the last, or
-/// about what is no element, gets element 0 or bottom.
+/// A finite structure that is asked one question at a time. A question leaves the run as it is. One about a name past the last,
+/// or about what is no element, gets element 0 or bottom.
 pub trait Run {
-    /// The scale of the values. Finding a value asks no more of it than `Answers` says; what is known of every `Scale` comes on top.
+    /// The scale of the values. Finding a value asks no more of it than `Answers` says; what is known of every `Scale` comes on
+    /// top.
     type Scale: Answers;
 
     /// What the run means.
@@ -63,15 +64,15 @@ pub trait Run {
     /// The value of a predicate of no argument.
     fn predicate0(&self, digit: u8) -> Self::Scale
         ensures told { result ≡ (meaning self.now).pred0 digit }
-        ensures outside { inside0 digit ≡ false → result ≡ Self.Scale.Answers.algebra.bottom };
+        ensures outside { inside0 digit ≡ false → result ≡ Self.Scale.algebra.bottom };
 
     /// The value of a predicate of one argument.
     fn predicate1(&self, digit: u8, a: u8) -> Self::Scale
         ensures told { result ≡ (meaning self.now).pred1 digit a }
-        ensures outside { inside1 (meaning self.now).size digit a ≡ false → result ≡ Self.Scale.Answers.algebra.bottom };
+        ensures outside { inside1 (meaning self.now).size digit a ≡ false → result ≡ Self.Scale.algebra.bottom };
 
     /// The value of a predicate of two arguments.
     fn predicate2(&self, digit: u8, a: u8, b: u8) -> Self::Scale
         ensures told { result ≡ (meaning self.now).pred2 digit a b }
-        ensures outside { inside2 (meaning self.now).size digit a b ≡ false → result ≡ Self.Scale.Answers.algebra.bottom };
+        ensures outside { inside2 (meaning self.now).size digit a b ≡ false → result ≡ Self.Scale.algebra.bottom };
 }

@@ -1,5 +1,5 @@
 // A row of mileposts, computed.
-ghost use Rattle.std.specs.Prelude.{◌≡◌, ◌≤◌, Some, MatchResult};
+ghost use Rattle.std.specs.Prelude.{◌≡◌, ◌≤◌, Some, IfOk, IfErr};
 ghost use Rattle.run.specs.Inside.{most_elements};
 
 use crate::checks::sized;
@@ -20,7 +20,8 @@ impl MilepostRun {
 
     /// The row of so many mileposts, at most `MOST_ELEMENTS`.
     pub fn new(size: u8) -> Result<MilepostRun, Fault>
-        ensures { MatchResult result (λ run. MilepostMade size (⟦<MilepostRun as Run>⟧.meaning run)) (λ e. milepost_fault size ≡ Some e) }
+        ensures made { IfOk result (λ run. MilepostMade size (⟦<MilepostRun as Run>⟧.meaning run)) }
+        ensures refused { IfErr result (λ e. milepost_fault size ≡ Some e) }
     {
         Ok(MilepostRun {
             size: sized(size, MOST_ELEMENTS)?,

@@ -1,5 +1,5 @@
 // A run over the bytes of a table, lent.
-ghost use Rattle.std.specs.Prelude.{◌≡◌, Some, MatchResult};
+ghost use Rattle.std.specs.Prelude.{◌≡◌, Some, IfOk, IfErr};
 ghost use Rattle.run.specs.Tables.{truth_of, table_fault, TableMade};
 
 use crate::Run;
@@ -29,7 +29,8 @@ impl Truth for u8 {
 impl<'a> Listed<'a, u8> {
     /// The run that the bytes of a table give.
     pub fn new(bytes: &'a [u8]) -> Result<TableRun<'a>, Fault>
-        ensures { MatchResult result (λ run. TableMade bytes.now (⟦<TableRun<'a> as Run>⟧.meaning run)) (λ e. table_fault bytes.now ≡ Some e) }
+        ensures made { IfOk result (λ run. TableMade bytes.now (⟦<TableRun<'a> as Run>⟧.meaning run)) }
+        ensures refused { IfErr result (λ e. table_fault bytes.now ≡ Some e) }
     {
         let (size, lists) = bytes.split_first().ok_or(Fault::WrongCount)?;
         let size = sized(*size, MOST_IN_TABLE)?;

@@ -4,7 +4,7 @@
 //   word  sixty-four flags side by side
 #![tactic(auto)]
 
-ghost use Rattle.std.specs.Prelude.{◌≡◌, Decides};
+ghost use Rattle.std.specs.Prelude.{◌≡◌, ◌↔◌, IsTrue};
 ghost use Rattle.logic.specs.Algebra.{Algebra, Laws, Judgeable};
 ghost use Rattle.logic.specs.Consequences.{Consequences};
 ghost use Rattle.logic.specs.Weight.{WeightMeans};
@@ -38,7 +38,7 @@ pub trait Answers: Copy {
 
     /// Whether the value is top.
     fn is_top(self) -> bool
-        ensures { Decides result (self ≡ algebra.top) };
+        ensures { IsTrue result ↔ (self ≡ algebra.top) };
 
     ghost judgeable: { Judgeable algebra };
 }

@@ -1,12 +1,7 @@
 -- What a set of variables has. Assumes nothing.
 use Rattle.std.specs.Prelude.{◌≡◌, ℕ, ◌<◌, Bool, false, slice_index_or}
 use Rattle.logic.specs.Text.{names}
-use Rattle.sign.specs.declared.name.Name.{Name}
 use Rattle.sign.specs.declared.variables.Variables.{Variables}
-
--- the name with this digit
-abbrev pub name : (x : ℕ) → x < names → Name
-name x below = record { digit = x; small = below }
 
 -- whether the variable is in the set
 abbrev pub is_in : Variables → ℕ → Bool
