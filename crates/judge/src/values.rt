@@ -79,10 +79,8 @@ impl<'a, R: Run> Interpretation<'a, R> {
                     Connective::Implies => self.connected(Join::Or, left.not(), b),
                 }
             }
-            Formula::Quantified(quantifier, x, a) => match quantifier {
-                Quantifier::Every => self.quantified(Join::And, *x, a),
-                Quantifier::Some => self.quantified(Join::Or, *x, a),
-            },
+            Formula::Quantified(Quantifier::Every, x, a) => self.quantified(Join::And, *x, a),
+            Formula::Quantified(Quantifier::Some, x, a) => self.quantified(Join::Or, *x, a),
         }
     }
 
