@@ -1,13 +1,12 @@
 // Parts, levels and free variables of a tree.
-ghost use Rattle.std.specs.Prelude.{◌≡◌, ◌<◌, ◌-◌, ◌^◌, min};
+ghost use Rattle.std.specs.Prelude.{◌≡◌, ◌-◌, ◌^◌, min};
 ghost use Rattle.logic.specs.Syntax.{occurs, free};
-ghost use Rattle.logic.specs.Text.{names, term_parts, parts as parts_of, term_levels, levels as levels_of};
+ghost use Rattle.logic.specs.Text.{term_parts, parts as parts_of, term_levels, levels as levels_of};
 ghost use Rattle.sign.specs.Sets.{IsSetOf};
 ghost use Rattle.formula.specs.View.{term, formula};
 
 use crate::tree::{Formula, Term};
 use sign::{Name, Variables};
-use std::array;
 
 impl Term {
     /// How many parts the term has; `usize::MAX` where there are more than that.
@@ -48,13 +47,7 @@ impl Term {
     pub fn variables(&self) -> Variables
         ensures { IsSetOf (λ x. occurs x (term self.now)) result }
     {
-        Variables {
-            holds: array::from_fn(
-                |x|
-                    requires { x < names }
-                { self.has(Name { digit: x as u8 }) },
-            ),
-        }
+        Variables::of(|x| self.has(x))
     }
 }
 
@@ -103,12 +96,6 @@ impl Formula {
     pub fn free_variables(&self) -> Variables
         ensures { IsSetOf (λ x. free x (formula self.now)) result }
     {
-        Variables {
-            holds: array::from_fn(
-                |x|
-                    requires { x < names }
-                { self.is_free(Name { digit: x as u8 }) },
-            ),
-        }
+        Variables::of(|x| self.is_free(x))
     }
 }

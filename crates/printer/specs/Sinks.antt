@@ -9,8 +9,8 @@ abbrev pub HasCounted : Count → ℕ → Type 0
 HasCounted s n = SomeIff s.bytes (n < 2 ^ 64) n
 
 -- one byte more came
-abbrev pub Counts : Count → ℕ → Count → Type 0
-Counts s byte t = (n : ℕ) → HasCounted s n → HasCounted t (n + 1)
+abbrev pub CountsOne : Count → ℕ → Count → Type 0
+CountsOne s byte t = (n : ℕ) → HasCounted s n → HasCounted t (n + 1)
 
 -- the byte stands at the place, where the buffer has it, and the place is the next
 pub record Puts (s : Buffer) (byte : ℕ) (t : Buffer) : Type 0 where

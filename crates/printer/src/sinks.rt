@@ -1,5 +1,5 @@
 // What the printer sends texts to.
-ghost use Rattle.printer.specs.Sinks.{Counts, Puts};
+ghost use Rattle.printer.specs.Sinks.{CountsOne, Puts};
 
 use formula::Sink;
 
@@ -10,7 +10,7 @@ pub struct Count {
 }
 
 impl Sink for Count {
-    ghost put_gives = { Counts };
+    ghost put_gives = { CountsOne };
 
     fn put(&mut self, _byte: u8) {
         self.bytes = self.bytes.and_then(|bytes| bytes.checked_add(1));

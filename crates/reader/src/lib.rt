@@ -1,7 +1,7 @@
 // Trees from bytes.
 #![tactic(auto)]
 
-ghost use Rattle.std.specs.Prelude.{◌≡◌, ◌<◌, ◌≤◌, length, OnOk, IfOk, IfErr, slice_index};
+ghost use Rattle.std.specs.Prelude.{◌≡◌, ◌<◌, ◌≤◌, length, OnOk, OnErr, IfOk, IfErr, slice_index};
 ghost use Rattle.logic.specs.Reading as reading;
 ghost use Rattle.sign.specs.View.{connective, quantifier};
 ghost use Rattle.sign.specs.Table.{class};
@@ -100,8 +100,10 @@ impl Reader<'_> {
 
     // The next byte.
     fn byte(&self) -> Result<u8, Fault>
-        ensures there { IfOk result (λ b. (self.now.at < length self.now.bytes.now) × (b ≡ slice_index self.now.bytes.now self.now.at)) }
-        ensures past { IfErr result (λ e. (length self.now.bytes.now ≤ self.now.at) × (e ≡ Reading EndsEarly self.now.source self.now.at)) }
+        ensures there { OnOk result (self.now.at < length self.now.bytes.now) }
+        ensures byte { IfOk result (λ b. b ≡ slice_index self.now.bytes.now self.now.at) }
+        ensures past { OnErr result (length self.now.bytes.now ≤ self.now.at) }
+        ensures fault { IfErr result (λ e. e ≡ Reading EndsEarly self.now.source self.now.at) }
     {
         let byte = self.bytes.get(self.at).copied();
         byte.ok_or(self.fault(Misreading::EndsEarly))
@@ -306,7 +308,8 @@ impl Reader<'_> {
     // Takes what stands after the letter of a quantifier.
     #[cycle(formulas)]
     fn quantified(&mut self, left: usize, which: Quantifier) -> Result<Formula, Fault>
-        ensures { Step formula (λ bytes. reading.generalised (reading.read_formula 200 left bytes) (quantifier which) bytes) self.old self.new result }
+        ensures { Step formula (λ bytes. reading.generalised (reading.read_formula 200 left bytes) (quantifier which) bytes)
+            self.old self.new result }
     {
         let x = self.bound()?;
         let a = self.formula(left)?;

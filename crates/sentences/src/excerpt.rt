@@ -6,8 +6,8 @@ ghost use Rattle.sentences.specs.Shown.{shown_text, mark_text, excerpt_text};
 use crate::window;
 use std::fmt;
 
-/// The sentence, cut to a window around the place, and the caret under it, each line behind two blanks. A place past the sentence is
-/// its end.
+/// The sentence, cut to a window around the place, and the caret under it, each line behind two blanks. A place past the
+/// sentence is its end.
 #[derive(Clone, Copy)]
 pub struct Excerpt<'a> {
     pub sentence: &'a [u8],

@@ -1,4 +1,4 @@
-// What is said of one sentence.
+// How a sentence is judged.
 ghost use Rattle.std.specs.Prelude.{Some, IfOk};
 ghost use Rattle.sentences.specs.Judged.{Judged};
 ghost use Rattle.sentences.specs.Shown.{measures_text};

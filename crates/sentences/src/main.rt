@@ -1,6 +1,6 @@
 // Checks a sheet of sentences, one a line: which are formulas, and where the others go wrong.
 //
-//   judgement  what is said of one sentence
+//   judgement  how a sentence is judged
 //   counts     how many sentences there were, and of which kind
 //   sheet      the sentence being taken, and the counts
 //   window     which bytes of a sentence are shown
@@ -51,7 +51,8 @@ fn take(rt: &HostRuntime, sheet: &mut Sheet, byte: u8) -> anyhow::Result<()> {
     Ok(())
 }
 
-// Judges the sentence that was taken, counts it, and says so. Want of memory ends the program in the words of that fault.
+// Judges the sentence that was taken, counts it, and says so. Where memory is wanting for that, the program ends in the words of
+// that fault.
 fn tell(rt: &HostRuntime, sheet: &mut Sheet) -> anyhow::Result<()> {
     let sentence = sheet.sentence.as_slice();
     let judgement = judge(rt.alloc(), sentence).map_err(Fault::from)?;

@@ -1,4 +1,4 @@
-// What is said of a sentence of the sheet.
+// The lines that tell of a sentence.
 ghost use Rattle.std.specs.Prelude.{Some};
 ghost use Rattle.sentences.specs.Shown.{refusal_text, report_text};
 

@@ -45,7 +45,7 @@ impl Class {
         Class::from(byte) == self
     }
 
-    // The class that a table has for a byte: its rule, where the table follows it.
+    // The class that a table has for a byte: the right one, where the whole table passes the test.
     fn in_table(table: &[Class; 256], byte: u8) -> Class
         requires { T (follows 0 table.now) }
         ensures { class result ≡ class_of byte }
