@@ -87,9 +87,7 @@ impl<'a, R: Run> Interpretation<'a, R> {
     // The value so far joined with that of a formula, which is not asked for where the value so far is settled.
     #[cycle(values)]
     fn connected(&self, join: Join, left: R::Scale, b: &Formula) -> R::Scale
-        ensures {
-            result ≡ connect R.Scale.algebra (connective join) left (value_in R.Scale.algebra R.meaning self.now (formula b.now))
-        }
+        ensures { result ≡ connect R.Scale.algebra (connective join) left (value_in R.Scale.algebra R.meaning self.now (formula b.now)) }
     {
         if join.is_settled(left) {
             left

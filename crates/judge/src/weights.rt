@@ -52,9 +52,7 @@ impl<R: Run> Interpretation<'_, R> {
     fn over(&self, body: &Body, below: u8, cells: &mut [R::Scale]) -> R::Scale
         requires few { below ≤ names }
         requires room { cells_wanted ≤ length cells.old }
-        ensures value {
-            result ≡ weight_below R.Scale.algebra (R.meaning self.now.run.now) (formula body.now.f.now) below (listed self.now.at.elements)
-        }
+        ensures value { result ≡ weight_below R.Scale.algebra (R.meaning self.now.run.now) (formula body.now.f.now) below (listed self.now.at.elements) }
         ensures rest { drop below cells.new ≡ drop below cells.old }
     {
         if below == 0 {

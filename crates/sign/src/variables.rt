@@ -7,8 +7,7 @@ ghost use Rattle.sign.specs.declared.name.Name.{Name};
 ghost use Rattle.sign.specs.Shown.{piece, variables_text};
 
 use crate::name::{NAMES, Name};
-use std::array;
-use std::fmt;
+use std::{array, fmt};
 
 /// A set of variables: for each digit, whether its variable is in the set.
 #[derive(Clone, Copy, PartialEq, Eq, Debug)]
