@@ -132,6 +132,7 @@ impl fmt::Display for Fault {
     }
 }
 
+// Two impls with one body: the library's two errors of memory have no trait of their own in common.
 impl From<AllocError> for Fault {
     ghost from_gives = { λ _ r. r ≡ Memory };
 

@@ -8,6 +8,7 @@ ghost use Rattle.formula.specs.View.{term, formula};
 use crate::tree::{Formula, Term};
 use sign::{Name, Variables};
 
+// Parts and levels differ in one operation. With the operation as a closure, each contract would speak of the closure.
 impl Term {
     /// How many parts the term has; `usize::MAX` where there are more than that.
     pub fn parts(&self) -> usize

@@ -6,6 +6,7 @@ ghost use Rattle.logic.specs.Weight.{zeros};
 use sign::{NAMES, Name};
 
 /// An element for each variable.
+// An array and no map, since it is copied at each turn of a quantifier, where no memory may be asked for.
 #[derive(Clone, Copy, Debug, PartialEq, Eq)]
 pub struct Assignment {
     pub elements: [u8; NAMES],

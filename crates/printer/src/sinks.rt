@@ -17,7 +17,7 @@ impl Sink for Count {
     }
 }
 
-// A buffer, and the place in it where the next byte goes.
+// A buffer, and the place in it where the next byte goes. With `get_mut` in `put` the proof does not close.
 #[derive(Drop)]
 pub struct Buffer<'a> {
     pub out: &'a mut [u8],

@@ -24,6 +24,9 @@ pub const MOST_PARTS: usize = 200;
 /// The most levels that a term or formula may have; every recursion over a tree that was read is at most so deep.
 pub const MOST_LEVELS: usize = 24;
 
+// The two calls differ in the method that takes the tree. As a closure it would need clauses longer than the calls, and a trait
+// would make the reader public.
+
 /// The formula that the bytes are the text of.
 pub fn read_formula(heap: Global, bytes: &[u8]) -> Result<Formula, Fault>
     ensures { FormulaRead bytes.now result }
@@ -44,7 +47,7 @@ pub fn read_term(heap: Global, bytes: &[u8]) -> Result<Term, Fault>
 
 // The clauses of the steps below have the number of `MOST_PARTS` itself: with its name the search does not close.
 
-// What a term begins with.
+// What a term begins with. The reader decides on the byte itself: a `TryFrom` would need an error that only becomes a fault here.
 #[derive(Clone, Copy)]
 enum Head {
     Variable,
@@ -143,7 +146,8 @@ impl Reader<'_> {
         Ok(())
     }
 
-    // Begins a part that stands at the next byte, with `left` levels left.
+    // Begins a part that stands at the next byte, with `left` levels left. That there were any is said here and of its callers: the
+    // levels that are left, in each result, would be a pair for the sake of one subtraction.
     fn part(&mut self, left: usize) -> Result<(), Fault>
         requires { self.old.at < length self.old.bytes.now }
         ensures deep { OnOk result (0 < left) }

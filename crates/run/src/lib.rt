@@ -31,6 +31,7 @@ pub const MOST_ELEMENTS: u8 = 64;
 
 /// A finite structure that is asked one question at a time. A question leaves the run as it is. One about a name past the last,
 /// or about what is no element, gets element 0 or bottom.
+// Each question has that as a clause of its own, where its callers see it, and not as a law of the trait.
 pub trait Run {
     /// The scale of the values. Finding a value asks no more of it than `Answers` says; what is known of every `Scale` comes on
     /// top.

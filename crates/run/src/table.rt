@@ -28,6 +28,7 @@ impl Truth for u8 {
 
 impl<'a> Listed<'a, u8> {
     /// The run that the bytes of a table give.
+    // A fleet's `new` makes the same checks of other counts; what both share are the functions that they call.
     pub fn new(bytes: &'a [u8]) -> Result<TableRun<'a>, Fault>
         ensures made { IfOk result (λ run. TableMade bytes.now (⟦<TableRun<'a> as Run>⟧.meaning run)) }
         ensures refused { IfErr result (λ e. table_fault bytes.now ≡ Some e) }

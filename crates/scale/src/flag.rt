@@ -11,6 +11,7 @@ pub struct Flag {
     pub value: bool,
 }
 
+// The operators are those of `Word`; a generic type over both would need a trait with the laws that each impl proves.
 impl Answers for Flag {
     ghost algebra = { flag_algebra };
 

@@ -14,6 +14,7 @@ pub struct Name {
 
 impl Name {
     /// The name with this digit, where there is one.
+    // An `Option` and no `TryFrom`, whose error nobody would print.
     pub fn new(digit: u8) -> Option<Name>
         ensures { MatchOption result (names ≤ digit) (λ n. n.digit ≡ digit) }
     {

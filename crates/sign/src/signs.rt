@@ -12,6 +12,7 @@ pub enum Connective {
 
 impl Connective {
     /// The byte that stands for the connective.
+    // A method and no `From`, which would not say which number it gives.
     pub fn sign(self) -> u8
         ensures { result ≡ joint (connective self) }
     {

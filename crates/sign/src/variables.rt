@@ -10,6 +10,7 @@ use crate::name::{NAMES, Name};
 use std::{array, fmt};
 
 /// A set of variables: for each digit, whether its variable is in the set.
+// An array and no set of the library's, since it is copied where no memory may be asked for.
 #[derive(Clone, Copy, PartialEq, Eq, Debug)]
 pub struct Variables {
     pub holds: [bool; NAMES],
@@ -59,7 +60,8 @@ impl fmt::Display for Variables {
     }
 }
 
-// Writes the variable with this digit, behind a blank where it is not the first.
+// Writes the variable with this digit, behind a blank where it is not the first. A text in place of the flag would have to be made
+// from the same flag elsewhere.
 fn show_variable<W: fmt::Write>(digit: u8, is_first: bool, f: &mut fmt::Formatter<W>) -> fmt::Result
     requires { digit < names }
     ensures { WritesOnOk W.write_str_gives f.old result (piece is_first digit) f.new }
