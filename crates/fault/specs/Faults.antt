@@ -63,7 +63,7 @@ words_of NotATruthValue = codes "truth byte not 0 or 1"
 words_of BufferShort = codes "buffer too short"
 words_of Memory = codes "out of memory"
 
--- P of a fault of reading; nothing of want of memory; and no other fault
+-- P of a fault of reading; of want of memory nothing is said; any other fault is impossible
 abbrev pub OfReading : (Misreading → Source → ℕ → Type 0) → Fault → Type 0
 OfReading P (Reading m s i) = P m s i
 OfReading P Memory = Unit {0}

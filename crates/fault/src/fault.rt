@@ -1,6 +1,6 @@
 // What a call can refuse, and for what.
 ghost use Rattle.std.specs.Prelude.{◌≡◌, Some};
-ghost use Rattle.fault.specs.Faults.{number_of, layer_of, place_of, source_of, word_of, words_of};
+ghost use Rattle.fault.specs.Faults.{misreading_number, misreading_words, number_of, layer_of, place_of, source_of, word_of, words_of};
 ghost use Rattle.fault.specs.declared.fault.Fault.TheVariants.{Memory};
 
 use std::alloc::{AllocError, AllocFailed};
@@ -45,17 +45,41 @@ pub enum Fault {
     Memory,
 }
 
+impl Misreading {
+    // The number of a fault that says so.
+    fn number(self) -> u8
+        ensures { result ≡ misreading_number self }
+    {
+        match self {
+            Misreading::NotAllowed => 5,
+            Misreading::EndsEarly => 6,
+            Misreading::AfterEnd => 7,
+            Misreading::TooDeep => 8,
+            Misreading::TooMany => 9,
+        }
+    }
+
+    // What is said of it to people.
+    fn words(self) -> &'static str
+        ensures { result.now ≡ misreading_words self }
+    {
+        match self {
+            Misreading::NotAllowed => "byte not allowed at this point",
+            Misreading::EndsEarly => "bytes end too soon",
+            Misreading::AfterEnd => "bytes after the end",
+            Misreading::TooDeep => "part at level 25",
+            Misreading::TooMany => "part 201",
+        }
+    }
+}
+
 impl Fault {
     /// The fault's number; none for want of memory.
     pub fn number(&self) -> Option<u8>
         ensures { result ≡ number_of self.now }
     {
         match self {
-            Fault::Reading(Misreading::NotAllowed, _, _) => Some(5),
-            Fault::Reading(Misreading::EndsEarly, _, _) => Some(6),
-            Fault::Reading(Misreading::AfterEnd, _, _) => Some(7),
-            Fault::Reading(Misreading::TooDeep, _, _) => Some(8),
-            Fault::Reading(Misreading::TooMany, _, _) => Some(9),
+            Fault::Reading(what, _, _) => Some(what.number()),
             Fault::SizeOutOfRange => Some(19),
             Fault::WrongCount => Some(20),
             Fault::ElementOutOfRange => Some(21),
@@ -117,11 +141,7 @@ impl fmt::Display for Fault {
 
     fn fmt<W: fmt::Write>(&self, f: &mut fmt::Formatter<W>) -> fmt::Result {
         f.pad(match self {
-            Fault::Reading(Misreading::NotAllowed, _, _) => "byte not allowed at this point",
-            Fault::Reading(Misreading::EndsEarly, _, _) => "bytes end too soon",
-            Fault::Reading(Misreading::AfterEnd, _, _) => "bytes after the end",
-            Fault::Reading(Misreading::TooDeep, _, _) => "part at level 25",
-            Fault::Reading(Misreading::TooMany, _, _) => "part 201",
+            Fault::Reading(what, _, _) => what.words(),
             Fault::SizeOutOfRange => "size out of range",
             Fault::WrongCount => "wrong number of bytes or words",
             Fault::ElementOutOfRange => "element not below the size",

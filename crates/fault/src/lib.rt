@@ -1,6 +1,6 @@
 // The faults: what a call can refuse, and for what.
 //
-//   fault      faults, the layers that they come from, and the texts that they are in
+//   fault      faults and misreadings, the layers that they come from, and the texts that they are in
 #![tactic(auto)]
 
 mod fault;

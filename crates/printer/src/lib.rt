@@ -13,7 +13,7 @@ use fault::Fault;
 use formula::{Formula, Spell, Term};
 use sinks::{Buffer, Count};
 
-/// What reads back from its text, and from no other bytes.
+/// What reads back from its text, where it is within the limits, and from no other bytes.
 pub trait ReadBack: Spell {
     // What printed bytes tell of the tree.
     ghost back: { Self → List ℕ → Type 0 };

@@ -8,10 +8,11 @@ use Rattle.sentences.specs.declared.counts.Counts.{Counts}
 abbrev pub none_counted : Counts
 none_counted = record { sentences = 0; formulas = 0; refused = 0 }
 
--- one more, where there is one
+-- one more where the flag says so, as far as the largest number
 abbrev more : Bool → ℕ → ℕ
 more one n = if one then min (n + 1) (2 ^ 64 - 1) else n
 
+-- all are counted, and each with its kind
 pub record Counted (before : Counts) (j : Result Measures Fault) (after : Counts) : Type 0 where
   pub all : after.sentences ≡ min (before.sentences + 1) (2 ^ 64 - 1)
   pub formulas : after.formulas ≡ more (is_ok j) before.formulas

@@ -17,7 +17,7 @@ pub struct Measures {
     pub free: Variables,
 }
 
-/// The measures of a formula, or why the sentence is none.
+/// The measures of a formula, or why the sentence is no formula.
 pub type Judgement = Result<Measures, Fault>;
 
 /// Judges the bytes of a sentence. Want of memory is no judgement.

@@ -7,7 +7,7 @@ use crate::judgement::Judgement;
 use fault::Fault;
 use std::fmt;
 
-/// The number of a sentence in its sheet, and how it was judged.
+/// A sentence, its number in the sheet, and how it was judged.
 #[derive(Clone, Copy)]
 pub struct Report<'a> {
     pub number: u64,

@@ -2,6 +2,7 @@
 use fault::{Fault, Misreading, Source};
 use printer::{print, text_len};
 use reader::{read_formula, read_term};
+use sign::Variables;
 use std::test::Fail;
 
 // 200 and 201 parts.
@@ -95,7 +96,8 @@ fn terms(rt: HostRuntime) -> Result<(), Fail> {
 fn free(rt: HostRuntime) -> Result<(), Fail> {
     let formula = read_formula(rt.alloc(), b"(Ax0r0(x0,x1)&q0(x2))")?;
     let free = formula.free_variables();
-    assert!(rt; !free.holds[0] && free.holds[1] && free.holds[2] && !free.holds[3]);
+    let holds = [false, true, true, false, false, false, false, false];
+    assert_eq!(rt; free, Variables { holds });
     Ok(())
 }
 
