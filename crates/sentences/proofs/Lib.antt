@@ -1,2 +1,3 @@
+pub mod Carets
 pub mod Excerpts
 pub mod Lines

@@ -1,5 +1,5 @@
 -- What counting a judgement does to the counts; one that would pass the largest number stays there. Assumes nothing.
-use Rattle.std.specs.Prelude.{◌≡◌, ℕ, ◌+◌, ◌-◌, ◌^◌, min, Bool, if◌then◌else◌, not, is_ok, Result}
+use Rattle.std.specs.Prelude.{◌≡◌, ℕ, ◌+◌, ◌-◌, ◌^◌, min, Bool, true, if◌then◌else◌, not, is_ok, Result}
 use Rattle.fault.specs.declared.fault.Fault.{Fault}
 use Rattle.sentences.specs.declared.judgement.Measures.{Measures}
 use Rattle.sentences.specs.declared.counts.Counts.{Counts}
@@ -14,6 +14,6 @@ more one n = if one then min (n + 1) (2 ^ 64 - 1) else n
 
 -- all are counted, and each with its kind
 pub record Counted (before : Counts) (j : Result Measures Fault) (after : Counts) : Type 0 where
-  pub all : after.sentences ≡ min (before.sentences + 1) (2 ^ 64 - 1)
+  pub all : after.sentences ≡ more true before.sentences
   pub formulas : after.formulas ≡ more (is_ok j) before.formulas
   pub refused : after.refused ≡ more (not (is_ok j)) before.refused

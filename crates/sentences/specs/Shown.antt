@@ -1,5 +1,5 @@
 -- What the program says of a sentence, and of the sheet. Assumes nothing.
-use Rattle.std.specs.Prelude.{ℕ, ◌+◌, ◌-◌, min, Bool, if◌then◌else◌, List, [], ◌∷◌, ◌++◌, length, map, replicate, slice_range, codes, nat_lt, Result, Ok, Err}
+use Rattle.std.specs.Prelude.{◌≡◌, ℕ, ◌+◌, ◌-◌, ◌<◌, ◌≤◌, min, Bool, if◌then◌else◌, List, [], ◌∷◌, ◌++◌, length, map, replicate, slice_index, slice_range, codes, nat_lt, Result, Ok, Err}
 use Rattle.std.specs.Option.{unwrap_or}
 use Rattle.std.specs.Fmt.{decimal}
 use Rattle.sign.specs.Shown.{variables_text}
@@ -33,13 +33,22 @@ cut_behind bytes place = mark_text (nat_lt (window_end place (length bytes)) (le
 abbrev pub column_of : List ℕ → ℕ → ℕ
 column_of bytes place = length (cut_before bytes place) + (place - window_start place (length bytes))
 
+-- the line that shows the sentence
+abbrev pub line_of : List ℕ → ℕ → List ℕ
+line_of bytes place = cut_before bytes place ++ shown_text (in_view bytes place) ++ cut_behind bytes place
+
+-- that line, and the caret in the next one, each behind two blanks
 abbrev pub excerpt_at : List ℕ → ℕ → List ℕ
-excerpt_at bytes place = codes "  " ++ cut_before bytes place ++ shown_text (in_view bytes place) ++ cut_behind bytes place
-    ++ 10 ∷ codes "  " ++ replicate (column_of bytes place) 32 ++ codes "^"
+excerpt_at bytes place = codes "  " ++ line_of bytes place ++ 10 ∷ codes "  " ++ replicate (column_of bytes place) 32 ++ codes "^"
 
 -- a place past the sentence is its end
 abbrev pub excerpt_text : List ℕ → ℕ → List ℕ
 excerpt_text bytes place = excerpt_at bytes (min place (length bytes))
+
+-- so what stands over the caret is the byte at the place, and the marks stand for all that is not shown
+pub record CaretUnder (bytes : List ℕ) (place : ℕ) : Type 0 where
+  pub over : place < length bytes → slice_index (line_of bytes place) (column_of bytes place) ≡ shown_as (slice_index bytes place)
+  pub whole : length bytes ≤ 64 → line_of bytes place ≡ shown_text bytes
 
 -- ---- a judgement
 

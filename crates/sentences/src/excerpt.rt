@@ -1,7 +1,7 @@
 // A sentence as it is shown, with a caret under a place.
-ghost use Rattle.std.specs.Prelude.{◌≡◌, Some, map, IsTrue};
+ghost use Rattle.std.specs.Prelude.{◌≡◌, ℕ, List, Some, map, IsTrue};
 ghost use Rattle.sentences.specs.Windows.{shown_as};
-ghost use Rattle.sentences.specs.Shown.{shown_text, mark_text, excerpt_text};
+ghost use Rattle.sentences.specs.Shown.{shown_text, mark_text, excerpt_text, CaretUnder};
 
 use crate::window;
 use std::fmt;
@@ -13,6 +13,11 @@ pub struct Excerpt<'a> {
     pub sentence: &'a [u8],
     pub place: usize,
 }
+
+/// The caret of each excerpt stands under the byte at the place.
+pub fn caret_is_under()
+    ensures { (bytes : List ℕ) (place : ℕ) → CaretUnder bytes place }
+{}
 
 impl fmt::Display for Excerpt<'_> {
     ghost output = { λ e. Some (excerpt_text e.sentence.now e.place) };
