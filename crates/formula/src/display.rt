@@ -24,6 +24,10 @@ impl<W: fmt::Write> Sink for Writer<'_, W> {
             self.result = self.f.write_char(byte as char);
         }
     }
+
+    fn is_closed(&self) -> bool {
+        self.result.is_err()
+    }
 }
 
 // Writes the tree's text.

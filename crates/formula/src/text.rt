@@ -1,12 +1,14 @@
-// The text of a tree, sent byte by byte.
-ghost use Rattle.std.specs.Prelude.{ℕ, List, [], ◌∷◌};
+// The text of a tree: how much room it takes, and its bytes, sent one after the other.
+ghost use Rattle.std.specs.Prelude.{ℕ, ◌-◌, ◌≤◌, List, [], ◌∷◌, length, IsTrue};
 ghost use Rattle.std.specs.List.{FoldsTo};
+ghost use Rattle.std.specs.Option.{SomeIff};
 ghost use Rattle.std.specs.Str.{IsAscii};
 ghost use Rattle.logic.specs.Signs.{digit as digit_of};
 ghost use Rattle.logic.specs.Text.{term_text, text as formula_text, enclosed, paired};
 ghost use Rattle.formula.specs.View.{term, formula};
 ghost use Rattle.formula.specs.TextLemmas.{term_ascii, formula_ascii};
 
+use crate::count::Count;
 use crate::tree::{Formula, Term};
 use sign::Name;
 
@@ -18,6 +20,13 @@ pub trait Sink {
     /// Takes a byte.
     fn put(&mut self, byte: u8)
         ensures { put_gives self.old byte self.new };
+
+    /// Yes only where no byte changes anything any more, so that none need be sent.
+    fn is_closed(&self) -> bool
+        ensures { IsTrue result → (byte : ℕ) → put_gives self.now byte self.now }
+    {
+        false
+    }
 }
 
 /// What can be spelt out as ASCII text.
@@ -27,6 +36,15 @@ pub trait Spell {
     /// Sends the text to the sink, from its first byte on.
     fn spell<S: Sink>(&self, sink: &mut S)
         ensures { FoldsTo S.put_gives sink.old (text self.now) sink.new };
+
+    /// What is left of `room` bytes behind the text.
+    fn spare(&self, room: usize) -> Option<usize>
+        ensures { SomeIff result (length (text self.now) ≤ room) (room - length (text self.now)) }
+    {
+        let mut count = Count { left: Some(room) };
+        self.spell(&mut count);
+        count.left
+    }
 
     ghost ascii: { (x : Self) → IsAscii (text x) };
 }
@@ -38,6 +56,9 @@ impl Spell for Term {
 
     #[cycle(spell)]
     fn spell<S: Sink>(&self, sink: &mut S) {
+        if sink.is_closed() {
+            return;
+        }
         match self {
             Term::Variable(x) => spell_name(*x, b'x', sink),
             Term::Constant(c) => spell_name(*c, b'c', sink),
@@ -49,6 +70,15 @@ impl Spell for Term {
                 spell_name(*f, b'g', sink);
                 s.paired(t, sink);
             }
+        }
+    }
+
+    // Part by part, and no further than the room goes.
+    fn spare(&self, room: usize) -> Option<usize> {
+        match self {
+            Term::Variable(_) | Term::Constant(_) => room.checked_sub(2),
+            Term::Apply1(_, s) => s.spare(room.checked_sub(4)?),
+            Term::Apply2(_, s, t) => t.spare(s.spare(room.checked_sub(5)?)?),
         }
     }
 }
@@ -83,6 +113,9 @@ impl Spell for Formula {
     ghost ascii = { formula_ascii };
 
     fn spell<S: Sink>(&self, sink: &mut S) {
+        if sink.is_closed() {
+            return;
+        }
         match self {
             Formula::Predicate0(p) => spell_name(*p, b'p', sink),
             Formula::Predicate1(p, s) => {
@@ -109,6 +142,18 @@ impl Spell for Formula {
                 spell_name(*x, b'x', sink);
                 a.spell(sink);
             }
+        }
+    }
+
+    // Part by part, and no further than the room goes.
+    fn spare(&self, room: usize) -> Option<usize> {
+        match self {
+            Formula::Predicate0(_) => room.checked_sub(2),
+            Formula::Predicate1(_, s) => s.spare(room.checked_sub(4)?),
+            Formula::Predicate2(_, s, t) => t.spare(s.spare(room.checked_sub(5)?)?),
+            Formula::Not(a) => a.spare(room.checked_sub(1)?),
+            Formula::Binary(_, a, b) => b.spare(a.spare(room.checked_sub(3)?)?),
+            Formula::Quantified(_, _, a) => a.spare(room.checked_sub(3)?),
         }
     }
 }

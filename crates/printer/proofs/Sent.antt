@@ -1,16 +1,10 @@
--- What the printer's sinks did with a whole text. Assumes nothing.
+-- What the printer's sink did with a whole text. Assumes nothing.
 use Rattle.std.proofs.Common.{◌≡◌, ℕ, ◌+◌, ◌<◌, ◌≤◌, List, [], ◌∷◌, ◌++◌, length, refl, ap, subst, ◌∙◌, append_assoc, append-nil, arith, length-set, set}
 use Rattle.std.specs.List.{FoldsTo}
-use Rattle.printer.specs.declared.sinks.Count.{Count}
 use Rattle.printer.specs.declared.sinks.Buffer.{Buffer}
-use Rattle.printer.specs.Sinks.{HasCounted, CountsOne, Puts}
+use Rattle.printer.specs.Sinks.{Puts}
 use Rattle.printer.specs.Printed.{Put}
 use Rattle.printer.proofs.Fronts.{Front, blank, put}
-
-pub counted : (bytes : List ℕ) (s t : Count) (n m : ℕ) → n + length bytes ≡ m
-    → HasCounted s n → FoldsTo CountsOne s bytes t → HasCounted t m
-counted [] s t n m e h p = let k : n ≡ m = omega arith in subst (λ x. HasCounted x m) p (subst (HasCounted s) k h)
-counted (b ∷ bytes) s t n m e h p = counted bytes p.0 t (n + 1) m (omega arith) (p.1 n h) p.2
 
 -- t is s with a text behind the one that its buffer began with
 pub record Filled (before done bytes : List ℕ) (s t : Buffer) : Type 0 where

@@ -1,8 +1,7 @@
 // Terms and formulas printed as text into a buffer that the caller lends.
 #![tactic(auto)]
 
-ghost use Rattle.std.specs.Prelude.{◌≡◌, ℕ, ◌-◌, ◌^◌, ◌<◌, min, List, length, take, IfOk};
-ghost use Rattle.std.specs.Option.{SomeIff};
+ghost use Rattle.std.specs.Prelude.{◌≡◌, ℕ, ◌-◌, ◌^◌, min, List, length, take, IfOk};
 ghost use Rattle.formula.specs.View.{term, formula};
 ghost use Rattle.printer.specs.Printed.{Printed, FormulaBack, TermBack};
 ghost use Rattle.printer.specs.PrintedLemmas.{term_back, formula_back};
@@ -11,7 +10,7 @@ mod sinks;
 
 use fault::Fault;
 use formula::{Formula, Spell, Term};
-use sinks::{Buffer, Count};
+use sinks::Buffer;
 
 /// What reads back from its text, where it is within the limits, and from no other bytes.
 pub trait ReadBack: Spell {
@@ -37,7 +36,10 @@ impl ReadBack for Formula {
 pub fn text_len<T: Spell>(tree: &T) -> usize
     ensures { result ≡ min (length (T.text tree.now)) (2 ^ 64 - 1) }
 {
-    count(tree).unwrap_or(usize::MAX)
+    match tree.spare(usize::MAX) {
+        Some(left) => usize::MAX - left,
+        None => usize::MAX,
+    }
 }
 
 /// Puts the text at the front of `out` and answers how many bytes it has. Where `out` is too short, nothing is written.
@@ -45,20 +47,12 @@ pub fn print<T: ReadBack>(tree: &T, out: &mut [u8]) -> Result<usize, Fault>
     ensures printed { Printed (T.text tree.now) out.old out.new result }
     ensures back { IfOk result (λ n. T.back tree.now (take n out.new)) }
 {
-    match count(tree) {
-        Some(len) if len <= out.len() => {
+    match tree.spare(out.len()) {
+        Some(left) => {
+            let len = out.len() - left;
             tree.spell(&mut Buffer { out, at: 0 });
             Ok(len)
         }
-        _ => Err(Fault::BufferShort),
+        None => Err(Fault::BufferShort),
     }
-}
-
-// How many bytes the text has, where `usize` counts them.
-fn count<T: Spell>(tree: &T) -> Option<usize>
-    ensures { SomeIff result (length (T.text tree.now) < 2 ^ 64) (length (T.text tree.now)) }
-{
-    let mut count = Count { bytes: Some(0) };
-    tree.spell(&mut count);
-    count.bytes
 }

@@ -1,21 +1,7 @@
-// What the printer sends texts to.
-ghost use Rattle.printer.specs.Sinks.{CountsOne, Puts};
+// What the printer sends a text to.
+ghost use Rattle.printer.specs.Sinks.{Puts};
 
 use formula::Sink;
-
-// How many bytes came, where `usize` counts them.
-#[derive(Clone, Copy)]
-pub struct Count {
-    pub bytes: Option<usize>,
-}
-
-impl Sink for Count {
-    ghost put_gives = { CountsOne };
-
-    fn put(&mut self, _byte: u8) {
-        self.bytes = self.bytes.and_then(|bytes| bytes.checked_add(1));
-    }
-}
 
 // A buffer, and the place in it where the next byte goes. With `get_mut` in `put` the proof does not close.
 #[derive(Drop)]

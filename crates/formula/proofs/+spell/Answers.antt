@@ -2,8 +2,12 @@ use Rattle.std.proofs.Common.{[], ◌∷◌, ◌++◌, refl}
 use Rattle.logic.specs.Signs.{'comma', 'close'}
 use Rattle.logic.specs.Text.{term_text}
 use Rattle.formula.specs.View.{term}
-use Rattle.formula.proofs.Sent.{then_byte}
+use Rattle.formula.proofs.Sent.{unmoved, then_byte}
 use Rattle.formula.proofs.+spell.Goals as goal
+
+pub text::TermSpell::spell-returns-then-is_closed : goal.text::TermSpell::spell-returns-then-is_closed
+text::TermSpell::spell-returns-then-is_closed g t c =
+    unmoved g.S.Sink.put_gives (term_text (term c.args.self.now)) c.args.sink.now (c.is_closed.ensures c.if-is_closed.true)
 
 pub tree::Term::enclosed-returns : goal.tree::Term::enclosed-returns
 tree::Term::enclosed-returns g t c =

@@ -1,13 +1,15 @@
-use Rattle.std.proofs.Common.{refl, sym, subst, arith, rules}
+use Rattle.std.proofs.Common.{◌≡◌, ◌-◌, length, refl, sym, subst, arith, rules}
 use Rattle.printer.proofs.Fronts.{front}
 use Rattle.printer.proofs.Sent.{printed}
 use Rattle.printer.proofs.print.Goals as goal
 
 pub returns-in-Some-clause-printed : goal.returns-in-Some-clause-printed
 returns-in-Some-clause-printed g c =
-    let len = c.in-Some.ensures.1 in
     let text = g.T.Spell.text c.args.tree.now in
-    let all = printed c.args.out.now text _ _ refl refl (omega (arith, c.if-len-out.true)) c.spell.ensures in
+    let fits = c.in-Some.ensures.0 in
+    let all = printed c.args.out.now text _ _ refl refl fits c.spell.ensures in
+    let left = c.in-Some.ensures.1 in
+    let len : length c.args.out.now - c.in-Some.left ≡ length text = omega (arith, left, fits) in
     let same = all.0 in
     let put = all.1 in
     search rules

@@ -3,8 +3,12 @@ use Rattle.std.specs.List.{FoldsTo}
 use Rattle.logic.specs.Signs.{'open', 'close'}
 use Rattle.logic.specs.Text.{text}
 use Rattle.formula.specs.View.{formula}
-use Rattle.formula.proofs.Sent.{then_byte}
+use Rattle.formula.proofs.Sent.{unmoved, then_byte}
 use Rattle.formula.proofs.text.FormulaSpell.+spell.Goals as goal
+
+pub returns-then-is_closed : goal.returns-then-is_closed
+returns-then-is_closed g t c =
+    unmoved g.S.Sink.put_gives (text (formula c.args.self.now)) c.args.sink.now (c.is_closed.ensures c.if-is_closed.true)
 
 pub returns-in-Binary : goal.returns-in-Binary
 returns-in-Binary g t c =
