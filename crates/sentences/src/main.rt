@@ -19,18 +19,29 @@ use fault::Fault;
 use judgement::judge;
 use report::Report;
 use sheet::Sheet;
-use std::io::{BufReader, Read};
+use std::io::Read;
+
+// How many bytes are asked for at a time: a page.
+const CHUNK: usize = 4096;
 
 fn main(rt: HostRuntime) -> anyhow::Result<()> {
     run(&rt)
 }
 
-// Takes the sheet from standard input, and tells of each sentence as it ends.
+// Takes the sheet from standard input, chunk by chunk, and tells of each sentence as it ends. The chunk stands on the stack, so that
+// an empty sheet asks for no memory. Nothing says that an input ends, so the loop counts.
 fn run(rt: &HostRuntime) -> anyhow::Result<()> {
-    let input = BufReader::new(rt.alloc(), rt.stdin())?;
+    let mut input = rt.stdin();
     let mut sheet = Sheet::new(rt.alloc());
-    for byte in input.bytes() {
-        take(rt, &mut sheet, byte?)?;
+    for _ in 0..u64::MAX {
+        let mut chunk = [0u8; CHUNK];
+        let count = input.read(&mut chunk)?;
+        if count == 0 {
+            break;
+        }
+        for byte in &chunk[0..count] {
+            take(rt, &mut sheet, *byte)?;
+        }
     }
     if !sheet.sentence.is_empty() {
         tell(rt, &mut sheet)?;
