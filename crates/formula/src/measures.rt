@@ -1,12 +1,14 @@
 // Parts, levels and free variables of a tree.
-ghost use Rattle.std.specs.Prelude.{◌≡◌, ◌-◌, ◌^◌, min};
+ghost use Rattle.std.specs.Prelude.{◌≡◌, ◌-◌, ◌^◌, ◌<◌, min};
 ghost use Rattle.logic.specs.Syntax.{occurs, free};
-ghost use Rattle.logic.specs.Text.{term_parts, parts as parts_of, term_levels, levels as levels_of};
-ghost use Rattle.sign.specs.Sets.{IsSetOf};
+ghost use Rattle.logic.specs.Text.{names, term_parts, parts as parts_of, term_levels, levels as levels_of};
+ghost use Rattle.sign.specs.Sets.{IsSetOf, is_in};
+ghost use Rattle.sign.specs.declared.name.Name.{Name};
 ghost use Rattle.formula.specs.View.{term, formula};
 
 use crate::tree::{Formula, Term};
 use sign::{Name, Variables};
+use std::array;
 
 // Parts and levels differ in one operation. With the operation as a closure, each contract would speak of the closure.
 impl Term {
@@ -48,7 +50,7 @@ impl Term {
     pub fn variables(&self) -> Variables
         ensures { IsSetOf (λ x. occurs x (term self.now)) result }
     {
-        Variables::of(|x| self.has(x))
+        variables_of(|x| self.has(x))
     }
 }
 
@@ -97,6 +99,22 @@ impl Formula {
     pub fn free_variables(&self) -> Variables
         ensures { IsSetOf (λ x. free x (formula self.now)) result }
     {
-        Variables::of(|x| self.is_free(x))
+        variables_of(|x| self.is_free(x))
+    }
+}
+
+// The variables of which the test says yes. It is private, so that no public call asks anything of its caller.
+fn variables_of<F: Fn(Name) -> bool>(test: F) -> Variables
+    requires { F.IsAlwaysCallable test }
+    ensures { (x : Name) → F.post test x (is_in result x.digit) }
+{
+    Variables {
+        holds: array::from_fn(
+            |x|
+                requires below { x < names }
+                requires callable { F.IsAlwaysCallable test }
+                ensures { (n : Name) → n.digit ≡ x → F.post test n result }
+            { test(Name { digit: x as u8 }) },
+        ),
     }
 }

@@ -3,11 +3,10 @@ ghost use Rattle.std.specs.Prelude.{◌≡◌, ◌<◌, Some};
 ghost use Rattle.std.specs.Fmt.{WritesOnOk};
 ghost use Rattle.logic.specs.Text.{names};
 ghost use Rattle.sign.specs.Sets.{is_in};
-ghost use Rattle.sign.specs.declared.name.Name.{Name};
 ghost use Rattle.sign.specs.Shown.{piece, variables_text};
 
 use crate::name::{NAMES, Name};
-use std::{array, fmt};
+use std::fmt;
 
 /// A set of variables: for each digit, whether its variable is in the set.
 // An array and no set of the library's, since it is copied where no memory may be asked for.
@@ -17,22 +16,6 @@ pub struct Variables {
 }
 
 impl Variables {
-    /// The variables of which the test says yes.
-    pub fn of<F: Fn(Name) -> bool>(test: F) -> Variables
-        requires { F.IsAlwaysCallable test }
-        ensures { (x : Name) → F.post test x (is_in result x.digit) }
-    {
-        Variables {
-            holds: array::from_fn(
-                |x|
-                    requires below { x < names }
-                    requires callable { F.IsAlwaysCallable test }
-                    ensures { (n : Name) → n.digit ≡ x → F.post test n result }
-                { test(Name { digit: x as u8 }) },
-            ),
-        }
-    }
-
     /// Whether the variable is in the set.
     pub fn contains(&self, variable: Name) -> bool
         ensures { result ≡ is_in self.now variable.digit }
