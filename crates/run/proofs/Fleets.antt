@@ -1,5 +1,5 @@
 -- What a fleet of well-formed bytes and words says, and that its runs are tables. Assumes nothing.
-use Rattle.std.proofs.Common.{◌≡◌, ℕ, ◌+◌, ◌<◌, ◌≤◌, Bool, true, false, cond, not, ◌&&◌, eqb, ltb, List, [], ◌∷◌, map, length, get_or, take, drop, Some, None, Option, slice_get, sym, refl, ap, ◌∙◌, subst, ap₂, arith}
+use Rattle.std.proofs.Common.{◌≡◌, ℕ, ◌+◌, ◌^◌, ◌<◌, ◌≤◌, Bool, true, false, cond, not, ◌&&◌, eqb, ltb, List, [], ◌∷◌, map, length, get_or, take, drop, Some, None, Option, slice_get, sym, refl, ap, ◌∙◌, subst, ap₂, mod-eq_of_lt, arith}
 use Rattle.std.specs.Option.{option_map, option_map_or}
 use Rattle.std.proofs.lemmas.Option.{slice_get-map}
 use Rattle.std.proofs.lemmas.List.{get_or_append_left, length-append, length-map, length-drop, drop-append-le, take-append-le, drop_at, take_all}
@@ -11,7 +11,7 @@ use Rattle.scale.specs.declared.flag.Flag.{Flag}
 use Rattle.scale.specs.declared.word.Word.{Word}
 use Rattle.scale.specs.Flags.{flag}
 use Rattle.scale.specs.Words.{word_algebra, bit_in, flag_in}
-use Rattle.scale.specs.WordsLemmas.{bit_by_bit}
+use Rattle.scale.specs.WordsLemmas.{word_path, bit_by_bit}
 use Rattle.run.specs.Inside.{inside0, inside1, inside2}
 use Rattle.run.specs.Layout.{entries, place0, place1, place2, all_below}
 use Rattle.run.specs.Listed.{said, listed}
@@ -19,6 +19,10 @@ use Rattle.run.specs.Checks.{is_sized}
 use Rattle.run.specs.Tables.{size_in, elements_in, truths_in, ListsPass, lists_pass, truth_tests, truth_of, table_length, table_counted, most_in_table, table_fault}
 use Rattle.run.specs.Fleets.{most_in_fleet, word_of, fleet_counted, fleet_fault, fleet_of, run_bytes, IsRun, FleetMade}
 use Rattle.run.proofs.Made.{filled, lists_past, listed_same, says_elements, says_truths, said_at, table_length_lem}
+
+-- a word with these bits is the one
+pub word_of_lem : (r : Word) (w : ℕ) → r.bits ≡ w → r ≡ word_of w
+word_of_lem r w h = word_path r (word_of w) (h ∙ sym (mod-eq_of_lt (subst (λ n. n < 2 ^ 64) h r.small)))
 
 -- the truth byte that a bit gives
 abbrev byte_of : ℕ → ℕ → ℕ
