@@ -1,4 +1,3 @@
 pub mod Weighing
 pub mod Join
-pub mod Interpretation
 pub mod Examples

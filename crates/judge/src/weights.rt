@@ -10,7 +10,7 @@ ghost use Rattle.judge.specs.Weighing.{cells_wanted, weight_below};
 
 use crate::assignment::Assignment;
 use crate::join::Join;
-use crate::values::Interpretation;
+use crate::values::value;
 use formula::Formula;
 use run::Run;
 use scale::Answers;
@@ -34,8 +34,7 @@ pub fn weight<R: Run>(run: &R, f: &Formula, cells: &mut [R::Scale]) -> Option<R:
         f,
         free: f.free_variables(),
     };
-    let at = Assignment::zeros();
-    Some(Interpretation { run, at }.over(&body, NAMES as u8, cells))
+    Some(over(run, &body, NAMES as u8, Assignment::zeros(), cells))
 }
 
 // The formula in the loops, and the variables that are free in it.
@@ -46,32 +45,30 @@ struct Body<'a> {
     ghost marks: { IsSetOf (λ x. is_free x (formula f.now)) free },
 }
 
-impl<R: Run> Interpretation<'_, R> {
-    // The values at all assignments of elements to the variables below `below`, the others as they are, joined by `and`. A variable
-    // that is not free is passed over. The cell of each variable has what its loop has found so far.
-    fn over(&self, body: &Body, below: u8, cells: &mut [R::Scale]) -> R::Scale
-        requires few { below ≤ names }
-        requires room { cells_wanted ≤ length cells.old }
-        ensures value { result ≡ weight_below R.Scale.algebra (R.meaning self.now.run.now) (formula body.now.f.now) below (listed self.now.at.elements) }
-        ensures rest { drop below cells.new ≡ drop below cells.old }
-    {
-        if below == 0 {
-            return self.value(body.f);
-        }
-        let last = Name { digit: below - 1 };
-        if !body.free.contains(last) {
-            return self.over(body, last.digit, cells);
-        }
-        let cell = last.digit as usize;
-        cells[cell] = Join::And.empty();
-        for e in 0..self.run.size() {
-            let here = self.with(last, e).over(body, last.digit, cells);
-            let all = Join::And.apply(cells[cell], here);
-            cells[cell] = all;
-            if Join::And.is_settled(all) {
-                return all;
-            }
-        }
-        cells[cell]
+// The values at all assignments of elements to the variables below `below`, the others as they are, joined by `and`. A variable that
+// is not free is passed over. The cell of each variable has what its loop has found so far.
+fn over<R: Run>(run: &R, body: &Body, below: u8, at: Assignment, cells: &mut [R::Scale]) -> R::Scale
+    requires few { below ≤ names }
+    requires room { cells_wanted ≤ length cells.old }
+    ensures value { result ≡ weight_below R.Scale.algebra (R.meaning run.now) (formula body.now.f.now) below (listed at.elements) }
+    ensures rest { drop below cells.new ≡ drop below cells.old }
+{
+    if below == 0 {
+        return value(run, body.f, at);
     }
+    let last = Name { digit: below - 1 };
+    if !body.free.contains(last) {
+        return over(run, body, last.digit, at, cells);
+    }
+    let cell = last.digit as usize;
+    cells[cell] = Join::And.empty();
+    for e in 0..run.size() {
+        let here = over(run, body, last.digit, at.with(last, e), cells);
+        let all = Join::And.apply(cells[cell], here);
+        cells[cell] = all;
+        if Join::And.is_settled(all) {
+            return all;
+        }
+    }
+    cells[cell]
 }

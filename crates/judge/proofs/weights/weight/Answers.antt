@@ -1,4 +1,4 @@
 use Rattle.judge.proofs.weights.weight.Goals as goal
 
 pub returns-clause-weight : goal.returns-clause-weight
-returns-clause-weight g c = simp c.zeros-at.ensures at c.over.ensures.value
+returns-clause-weight g c = simp c.zeros.ensures at c.over.ensures.value

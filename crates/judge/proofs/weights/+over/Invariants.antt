@@ -3,7 +3,7 @@ use Rattle.logic.specs.Assignment.{assign, listed}
 use Rattle.logic.specs.Value.{meet}
 use Rattle.formula.specs.View.{formula}
 use Rattle.judge.specs.Weighing.{weight_below}
-use Rattle.judge.proofs.values.Interpretation.+over.Given as goal
+use Rattle.judge.proofs.weights.+over.Given as goal
 
 abbrev pub decreases-over : goal.decreases-over
 decreases-over g l = l.below
@@ -12,9 +12,9 @@ decreases-over g l = l.below
 abbrev pub invariant-loop-e : goal.invariant-loop-e
 invariant-loop-e g l =
     let A = g.R.Scale.Answers.algebra in
-    let m = g.R.Run.meaning l.self.run.now in
+    let m = g.R.Run.meaning l.run in
     let n = l.last.digit in
     record {
-      found : get_or l.cells n A.top ≡ meet A (λ e. weight_below A m (formula l.body.f.now) n (assign (listed l.self.at.elements) n e)) l.e;
+      found : get_or l.cells n A.top ≡ meet A (λ e. weight_below A m (formula l.body.f.now) n (assign (listed l.at.elements) n e)) l.e;
       kept : drop l.below l.cells ≡ drop l.below l.fn.cells;
     }

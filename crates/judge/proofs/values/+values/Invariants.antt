@@ -3,11 +3,11 @@ use Rattle.logic.specs.Assignment.{assign, listed}
 use Rattle.logic.specs.Value.{quantify, value}
 use Rattle.formula.specs.View.{formula}
 use Rattle.judge.specs.Join.{quantifier}
-use Rattle.judge.proofs.values.Interpretation.+values.Given as goal
+use Rattle.judge.proofs.values.+values.Given as goal
 
 -- the values at the elements so far, joined
 abbrev pub invariant-quantified-loop-e : goal.invariant-quantified-loop-e
 invariant-quantified-loop-e g l =
     let A = g.R.Scale.Answers.algebra in
-    let m = g.R.Run.meaning l.self.run.now in
-    l.joined ≡ quantify A (quantifier l.join) (λ e. value A m (assign (listed l.self.at.elements) l.x.digit e) (formula l.a)) l.e
+    let m = g.R.Run.meaning l.run in
+    l.joined ≡ quantify A (quantifier l.join) (λ e. value A m (assign (listed l.at.elements) l.x.digit e) (formula l.a)) l.e
