@@ -1,5 +1,5 @@
 // The digit of a name.
-ghost use Rattle.std.specs.Prelude.{◌≡◌, ◌<◌, ◌≤◌, MatchOption};
+ghost use Rattle.std.specs.Prelude.{◌≡◌, ◌<◌, ◌≤◌, MatchOption, slice_index_or};
 ghost use Rattle.logic.specs.Text.{names};
 
 /// How many names each letter has.
@@ -23,5 +23,21 @@ impl Name {
         } else {
             None
         }
+    }
+
+    /// Every name, in rising order of the digits.
+    pub fn all() -> [Name; NAMES]
+        ensures { (x other : Name) → slice_index_or result x.digit other ≡ x }
+    {
+        [
+            Name { digit: 0 },
+            Name { digit: 1 },
+            Name { digit: 2 },
+            Name { digit: 3 },
+            Name { digit: 4 },
+            Name { digit: 5 },
+            Name { digit: 6 },
+            Name { digit: 7 },
+        ]
     }
 }

@@ -16,6 +16,14 @@ pub struct Variables {
 }
 
 impl Variables {
+    /// The variables whose answers are yes, where the answers stand in rising order of the digits. A test is asked of every name by
+    /// `Variables::of(Name::all().map(test))`.
+    pub fn of(answers: [bool; NAMES]) -> Variables
+        ensures { result.holds ≡ answers }
+    {
+        Variables { holds: answers }
+    }
+
     /// Whether the variable is in the set.
     pub fn contains(&self, variable: Name) -> bool
         ensures { result ≡ is_in self.now variable.digit }

@@ -2,7 +2,7 @@
 use fault::{Fault, Misreading, Source};
 use printer::{print, text_len};
 use reader::{read_formula, read_term};
-use sign::Variables;
+use sign::{Name, Variables};
 use std::test::Fail;
 
 // 200 and 201 parts.
@@ -99,6 +99,13 @@ fn free(rt: HostRuntime) -> Result<(), Fail> {
     let holds = [false, true, true, false, false, false, false, false];
     assert_eq!(rt; free, Variables { holds });
     Ok(())
+}
+
+#[test]
+fn answered(rt: HostRuntime) {
+    let set = Variables::of(Name::all().map(|x| x.digit % 3 == 1));
+    let holds = [false, true, false, false, true, false, false, true];
+    assert_eq!(rt; set, Variables { holds });
 }
 
 #[test]
